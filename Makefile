@@ -1,0 +1,7 @@
+.PHONY: run test
+
+run:
+	bash tools/run
+
+test:
+	bash .ci/run

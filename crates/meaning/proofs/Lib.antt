@@ -1,0 +1,5 @@
+pub mod Quantifiers
+pub mod SetLaws
+pub mod Since
+pub mod Rows
+pub mod Chains

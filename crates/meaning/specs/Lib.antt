@@ -1,0 +1,13 @@
+pub mod Lists
+pub mod Sets
+pub mod Rules
+pub mod Events
+pub mod Policy
+pub mod Steps
+pub mod Refusals
+pub mod Path
+pub mod Sheet
+pub mod Question
+pub mod History
+pub mod Image
+pub mod Worked
