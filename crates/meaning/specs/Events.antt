@@ -12,12 +12,13 @@ unfoldable pub somePair : List (ℕ × ℕ) → (ℕ → ℕ → Bool) → Bool
 somePair [] p = false
 somePair (c ∷ cs) p = p (c .0) (c .1) || somePair cs p
 
--- a chain of at most k listed causes leads from a to b. A `let` waits until it is asked for, so a chain is followed no further than it goes.
+-- a chain of listed causes, one at least and k at most, leads from a to b
+-- (the `let` is for computing: what it binds waits until it is asked for, so that a chain is followed no further than it goes)
 unfoldable pub chain : List (ℕ × ℕ) → ℕ → ℕ → ℕ → Bool
 chain cs zero a b = false
 chain cs (suc k) a b = somePair cs (λ c d. let further = chain cs k a c in eqb d b && (eqb c a || further))
 
--- A listed cause (a, b) says that b needs a; "needs" is closed over chains. A cause leads upwards, so that no chain has as many links as there are events.
+-- A listed cause (a, b) says that b needs a; "needs" is closed over chains. In an accepted sheet a < b, so that no chain has as many links as there are events.
 unfoldable pub neededBy : List (ℕ × ℕ) → ℕ → ℕ → ℕ
 neededBy causes n b = setOf n (λ a. chain causes n a b)
 

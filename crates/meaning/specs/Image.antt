@@ -6,10 +6,11 @@ use mathlib.Core.List.{List, [], _∷_, _++_, map}
 use lib.Dec.{eqb, leb, ltb}
 use lib.ListN.{length, getD, take, drop}
 use Rattle.meaning.specs.Lists.{all}
+use Rattle.meaning.specs.Records.{headOf, marked, kindOf}
 use Rattle.meaning.specs.Rules.{Rules}
 use Rattle.meaning.specs.Events.{allowed, closed}
-use Rattle.meaning.specs.History.{Told, saved, refused, letGo, keptOf, carried}
-use Rattle.meaning.specs.Refusals.{Answer, unless, _gives_else_}
+use Rattle.meaning.specs.History.{Told, saved, restored, refused, letGo, keptOf, carried}
+use Rattle.meaning.specs.Refusals.{Answer, good}
 
 -- a number in k bytes, lowest first, and back
 unfoldable pub bytesOf : ℕ → ℕ → List ℕ
@@ -29,15 +30,12 @@ pub record Image : Type 0 where
   -- the sets of the kept sessions, oldest first
   pub sets : List ℕ
 
-unfoldable pub markOf : ℕ → List ℕ
-markOf kind = 0xB4 ∷ 0x4D ∷ kind ∷ []
-
 unfoldable pub sessionBytes : List ℕ → List ℕ
 sessionBytes [] = []
-sessionBytes (x ∷ xs) = markOf 9 ++ bytesOf 4 x ++ sessionBytes xs
+sessionBytes (x ∷ xs) = headOf 9 ++ bytesOf 4 x ++ sessionBytes xs
 
 unfoldable pub imageBytes : Image → List ℕ
-imageBytes m = markOf 8 ++ bytesOf 4 (m .total) ++ bytesOf 4 (m .gone) ++ bytesOf 8 (m .carriedRow) ++ sessionBytes (m .sets)
+imageBytes m = headOf 8 ++ bytesOf 4 (m .total) ++ bytesOf 4 (m .gone) ++ bytesOf 8 (m .carriedRow) ++ sessionBytes (m .sets)
 
 unfoldable pub imageOf : Rules → List ℕ → Image
 imageOf r h = record { total = length h; gone = letGo r h; carriedRow = carried r h; sets = keptOf r h }
@@ -48,13 +46,13 @@ pub record Saving : Type 0 where
   pub told : Told
   pub buffer : List ℕ
 
+-- too short a buffer is left as it was
 unfoldable pub save : Rules → List ℕ → List ℕ → Saving
 save r h buffer =
     let bytes = imageBytes (imageOf r h) in
-    let short = ltb (length buffer) (length bytes) gives 41 else 0 in
-    cond (eqb short 0)
+    cond (ltb (length buffer) (length bytes))
+    (record { told = refused 41; buffer = buffer })
     (record { told = saved (length bytes); buffer = bytes ++ drop (length bytes) buffer })
-    (record { told = refused short; buffer = buffer })
 
 -- READING AN IMAGE
 
@@ -63,8 +61,8 @@ unfoldable pub sevens : ℕ → List ℕ → List (List ℕ)
 sevens zero s = []
 sevens (suc n) s = take 7 s ∷ sevens n (drop 7 s)
 
-unfoldable pub hasMark : ℕ → List ℕ → Bool
-hasMark kind s = eqb (getD s 0 0) 0xB4 && eqb (getD s 1 0) 0x4D && eqb (getD s 2 0) kind
+unfoldable pub headed : ℕ → List ℕ → Bool
+headed kind s = marked s && eqb (kindOf s) kind
 
 -- 19 bytes, and 7 for each kept session
 unfoldable pub keptIn : List ℕ → ℕ
@@ -88,8 +86,8 @@ misshapen limit s =
     let m = said s in
     ltb (length s) 19
     || not (eqb ((length s - 19) % 7) 0)
-    || not (hasMark 8 s)
-    || not (all (hasMark 9) (sessionsIn s))
+    || not (headed 8 s)
+    || not (all (headed 9) (sessionsIn s))
     || ltb limit (keptIn s)
     || not (eqb (m .total) (m .gone + keptIn s))
     || (eqb (m .gone) 0 && not (eqb (m .carriedRow) 0))
@@ -107,4 +105,9 @@ unlawful r m =
     || oldestClosed r (m .sets)
 
 unfoldable pub readImage : ℕ → Rules → List ℕ → Answer Image
-readImage limit r s = unless (misshapen limit s gives 42 else unlawful r (said s) gives 43 else 0) (said s)
+readImage limit r s = cond (misshapen limit s) (Answer.refused 42) (cond (unlawful r (said s)) (Answer.refused 43) (good (said s)))
+
+-- what restoring tells
+unfoldable pub restoring : Answer Image → Told
+restoring (good m) = restored
+restoring (Answer.refused n) = refused n

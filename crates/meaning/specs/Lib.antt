@@ -5,6 +5,7 @@ pub mod Events
 pub mod Policy
 pub mod Steps
 pub mod Refusals
+pub mod Records
 pub mod Path
 pub mod Sheet
 pub mod Question

@@ -17,15 +17,15 @@ dot = 0x2E
 unfoldable pub segmentOk : List ℕ → Bool
 segmentOk s = not (isEmpty s) && not (same s (dot ∷ [])) && not (same s (dot ∷ dot ∷ [])) && not (contains 0 s)
 
--- a byte in front of the first segment
-unfoldable pub before : ℕ → List (List ℕ) → List (List ℕ)
-before b [] = (b ∷ []) ∷ []
-before b (s ∷ ss) = (b ∷ s) ∷ ss
+-- a byte more at the front of the first segment
+unfoldable pub prepend : ℕ → List (List ℕ) → List (List ℕ)
+prepend b [] = (b ∷ []) ∷ []
+prepend b (s ∷ ss) = (b ∷ s) ∷ ss
 
 -- the segments that stand between slashes: always one more than there are slashes
 unfoldable pub segments : List ℕ → List (List ℕ)
 segments [] = [] ∷ []
-segments (b ∷ bs) = cond (eqb b slash) ([] ∷ segments bs) (before b (segments bs))
+segments (b ∷ bs) = cond (eqb b slash) ([] ∷ segments bs) (prepend b (segments bs))
 
 -- one or more segments, each preceded by one "/", and nothing after the last
 unfoldable pub wellFormed : List ℕ → Bool

@@ -7,23 +7,24 @@ use lib.Dec.{eqb, leb, ltb}
 use lib.ListN.{length}
 use Rattle.meaning.specs.Refusals.{Answer, good, refused, _gives_else_}
 use Rattle.meaning.specs.Path.{wellFormed, covers, restAfter}
-use Rattle.meaning.specs.Sheet.{Root, Sheet, sheetOf}
+use Rattle.meaning.specs.Sheet.{Root, Sheet, knownAccess, sheetOf}
 
 pub data Match : Type 0 where
   under : Root → Match
   nowhere : Match
 
--- of two matches the longer root
-unfoldable pub longer : Root → Match → Match
-longer r nowhere = under r
-longer r (under q) = cond (ltb (length (r .path)) (length (q .path))) (under q) (under r)
+-- the best so far, or r where r is longer
+unfoldable pub longer : Match → Root → Match
+longer nowhere r = under r
+longer (under q) r = cond (ltb (length (q .path)) (length (r .path))) (under r) (under q)
 
 -- The longest covering root of that access decides.
-unfoldable pub longest : ℕ → List ℕ → List Root → Match
-longest access path [] = nowhere
-longest access path (r ∷ rs) =
-    let others = longest access path rs in
-    cond (eqb (r .access) access && covers (r .path) path) (longer r others) others
+unfoldable pub better : ℕ → List ℕ → Match → Root → Match
+better access path best r = cond (eqb (r .access) access && covers (r .path) path) (longer best r) best
+
+unfoldable pub longest : ℕ → List ℕ → Match → List Root → Match
+longest access path best [] = best
+longest access path best (r ∷ rs) = longest access path (better access path best r) rs
 
 pub record Found : Type 0 where
   pub event : ℕ
@@ -37,7 +38,7 @@ found path nowhere = refused 33
 -- access not 0 or 1; path of 0 or over 255 bytes; malformed
 unfoldable pub pathFault : ℕ → List ℕ → ℕ
 pathFault access path =
-    ltb 1 access gives 34
+    not (knownAccess access) gives 34
     else (eqb (length path) 0 || ltb 255 (length path)) gives 31
     else not (wellFormed path) gives 32
     else 0
@@ -46,7 +47,7 @@ pathFault access path =
 unfoldable pub pathIn : Sheet → ℕ → List ℕ → Answer Found
 pathIn s access path =
     let f = pathFault access path in
-    cond (eqb f 0) (found path (longest access path (s .roots))) (refused f)
+    cond (eqb f 0) (found path (longest access path nowhere (s .roots))) (refused f)
 
 -- A path question judges the sheet first.
 unfoldable pub askedOf : Answer Sheet → ℕ → List ℕ → Answer Found

@@ -2,9 +2,8 @@
 -- Assumes nothing.
 use Prim.Native.Nat.{ℕ}
 use mathlib.Core.Bool.{Bool, cond}
-use lib.Dec.{eqb}
 
--- what a question answers: what was asked for, or the number of the refusal
+-- what was asked for, or the number of the refusal
 pub data Answer (A : Type 0) : Type 0 where
   good : A → Answer A
   refused : ℕ → Answer A
@@ -13,7 +12,3 @@ pub data Answer (A : Type 0) : Type 0 where
 infixr 10 _gives_else_
 abbrev pub _gives_else_ : Bool → ℕ → ℕ → ℕ
 b gives n else m = cond b n m
-
--- what was asked for, if no fault was found
-unfoldable pub unless : {A : Type 0} → ℕ → A → Answer A
-unless fault a = cond (eqb fault 0) (good a) (refused fault)

@@ -36,6 +36,6 @@ pub record Rules : Type 0 where
   pub nodes : ℕ
   pub node : ℕ → Node
 
--- each node is in range: it uses earlier nodes only
+-- each node names events of the sheet, and uses earlier nodes only
 unfoldable pub inOrder : Rules → Bool
 inOrder r = every (r .nodes) (λ n. nodeInRange (r .events) n (r .node n))

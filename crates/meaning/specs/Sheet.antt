@@ -8,8 +8,9 @@ use lib.ListN.{length, getD, take, drop}
 use Rattle.meaning.specs.Lists.{isEmpty}
 use Rattle.meaning.specs.Rules.{Node, Rules, nodeInRange}
 use Rattle.meaning.specs.Events.{neededBy, conflictingWith}
-use Rattle.meaning.specs.Refusals.{Answer, good, refused, unless, _gives_else_}
+use Rattle.meaning.specs.Refusals.{Answer, good, refused, _gives_else_}
 use Rattle.meaning.specs.Path.{wellFormed}
+use Rattle.meaning.specs.Records.{marked, kindOf}
 
 pub record Root : Type 0 where
   pub access : ℕ
@@ -38,7 +39,7 @@ pub record Kind : Type 0 where
   pub greatest : ℕ
   pub most : ℕ
 
--- kinds 1 to 5: the number of events, causes, conflicts, roots, nodes
+-- kinds 1 to 5: the number of events, causes, conflicts, roots, nodes (whose length `nodeFits` fixes further)
 unfoldable pub kinds : List Kind
 kinds =
     record { least = 1; greatest = 1; most = 1 }
@@ -48,45 +49,51 @@ kinds =
     ∷ record { least = 1; greatest = 3; most = 64 }
     ∷ []
 
-unfoldable pub kindAt : ℕ → Kind
-kindAt k = getD kinds (k - 1) (record { least = 0; greatest = 0; most = 0 })
-
 unfoldable pub knownKind : ℕ → Bool
 knownKind k = leb 1 k && leb k (length kinds)
 
+unfoldable pub kindAt : ℕ → Kind
+kindAt k = getD kinds (k - 1) (record { least = 0; greatest = 0; most = 0 })
+
+-- the kind of the record that says this
+unfoldable pub kindNumber : Item → ℕ
+kindNumber (count n) = 1
+kindNumber (cause a b) = 2
+kindNumber (conflict a b) = 3
+kindNumber (root r) = 4
+kindNumber (node n) = 5
+
 -- THE NODE KINDS
 
--- how many operands each of the eight kinds takes
-unfoldable pub operands : List ℕ
-operands = 0 ∷ 1 ∷ 1 ∷ 1 ∷ 2 ∷ 2 ∷ 1 ∷ 2 ∷ []
+-- how many operands the kind takes, and the node that it makes of them
+pub record NodeKind : Type 0 where
+  pub takes : ℕ
+  pub makes : ℕ → ℕ → Node
 
--- the node of a kind with the operands a and b, of which it takes as many as it has
-unfoldable pub nodeOf : ℕ → ℕ → ℕ → Node
-nodeOf k a b =
-    getD
-    (Node.always
-    ∷ Node.event a
-    ∷ Node.possible a
-    ∷ Node.neg a
-    ∷ Node.both a b
-    ∷ Node.either a b
-    ∷ Node.previous a
-    ∷ Node.since a b
-    ∷ [])
-    k
-    Node.always
+-- kinds 0 to 7
+unfoldable pub nodeKinds : List NodeKind
+nodeKinds =
+    record { takes = 0; makes = λ a b. Node.always }
+    ∷ record { takes = 1; makes = λ a b. Node.event a }
+    ∷ record { takes = 1; makes = λ a b. Node.possible a }
+    ∷ record { takes = 1; makes = λ a b. Node.neg a }
+    ∷ record { takes = 2; makes = λ a b. Node.both a b }
+    ∷ record { takes = 2; makes = λ a b. Node.either a b }
+    ∷ record { takes = 1; makes = λ a b. Node.previous a }
+    ∷ record { takes = 2; makes = λ a b. Node.since a b }
+    ∷ []
+
+unfoldable pub nodeKind : ℕ → NodeKind
+nodeKind k = getD nodeKinds k (record { takes = 0; makes = λ a b. Node.always })
 
 -- a node's payload is its kind, a known one, and that kind's operands
 unfoldable pub nodeFits : List ℕ → Bool
-nodeFits p = let k = getD p 0 0 in ltb k (length operands) && eqb (length p) (1 + getD operands k 0)
+nodeFits p = let k = getD p 0 0 in ltb k (length nodeKinds) && eqb (length p) (1 + nodeKind k .takes)
+
+unfoldable pub nodeOf : ℕ → ℕ → ℕ → Node
+nodeOf k a b = nodeKind k .makes a b
 
 -- A RECORD: the mark, a kind byte, a payload length byte, the payload
-
-unfoldable pub marked : List ℕ → Bool
-marked s = eqb (getD s 0 0) 0xB4 && eqb (getD s 1 0) 0x4D
-
-unfoldable pub kindOf : List ℕ → ℕ
-kindOf s = getD s 2 0
 
 unfoldable pub payload : List ℕ → List ℕ
 payload s = take (getD s 3 0) (drop 4 s)
@@ -120,7 +127,7 @@ itemOf k p =
     (k - 1)
     (count 0)
 
--- READING: the lists so far, with the kind and the key of the record before (kind 0: none)
+-- READING: the lists so far, and the kind and key of the record before (kind 0: nothing was read)
 
 pub record Reading : Type 0 where
   pub lists : Sheet
@@ -130,62 +137,13 @@ pub record Reading : Type 0 where
 unfoldable pub nothingRead : Reading
 nothingRead = record { lists = record { events = 0; causes = []; conflicts = []; roots = []; nodes = [] }; kind = 0; key = [] }
 
--- what records of its kind ascend by: pairs by (a, b), roots by (access, path bytes), nodes by nothing
+-- what records of its kind ascend by: pairs by (a, b), roots by (access, path bytes), the others by nothing
 unfoldable pub keyOf : Item → List ℕ
 keyOf (count n) = []
 keyOf (cause a b) = a ∷ b ∷ []
 keyOf (conflict a b) = a ∷ b ∷ []
 keyOf (root r) = r .access ∷ r .path
 keyOf (node n) = []
-
--- strictly ascending, byte by byte, a proper prefix coming first
-unfoldable pub ascends : List ℕ → List ℕ → Bool
-ascends xs [] = false
-ascends [] (y ∷ ys) = true
-ascends (x ∷ xs) (y ∷ ys) = ltb x y || (eqb x y && ascends xs ys)
-
--- first record not kind 1, kind 1 again, or order broken
-unfoldable pub disordered : Reading → ℕ → Item → Bool
-disordered g k i =
-    (eqb (g .kind) 0 && not (eqb k 1))
-    || (not (eqb (g .kind) 0) && eqb k 1)
-    || ltb k (g .kind)
-    || (eqb k (g .kind) && not (isEmpty (keyOf i)) && not (ascends (g .key) (keyOf i)))
-
--- how many of its kind were read before
-unfoldable pub soFar : Sheet → Item → ℕ
-soFar s (count n) = 0
-soFar s (cause a b) = length (s .causes)
-soFar s (conflict a b) = length (s .conflicts)
-soFar s (root r) = length (s .roots)
-soFar s (node n) = length (s .nodes)
-
--- 1 to 32 events; a < b; event and access in range; operands earlier nodes
-unfoldable pub inRange : Sheet → Item → Bool
-inRange s (count n) = leb 1 n && leb n 32
-inRange s (cause a b) = ltb a b && ltb b (s .events)
-inRange s (conflict a b) = ltb a b && ltb b (s .events)
-inRange s (root r) = leb (r .access) 1 && ltb (r .event) (s .events)
-inRange s (node n) = nodeInRange (s .events) (length (s .nodes)) n
-
-unfoldable pub rootFormed : Item → Bool
-rootFormed (count n) = true
-rootFormed (cause a b) = true
-rootFormed (conflict a b) = true
-rootFormed (root r) = wellFormed (r .path)
-rootFormed (node n) = true
-
--- the fault of the record at the front of s, after what was read, or 0
-unfoldable pub fault : Reading → List ℕ → ℕ
-fault g s =
-    let k = kindOf s in
-    let i = itemOf k (payload s) in
-    not (framed s) gives 11
-    else disordered g k i gives 12
-    else leb (kindAt k .most) (soFar (g .lists) i) gives 15
-    else not (inRange (g .lists) i) gives 13
-    else not (rootFormed i) gives 14
-    else 0
 
 -- the lists with one record more
 unfoldable pub noted : Sheet → Item → Sheet
@@ -195,27 +153,119 @@ noted s (conflict a b) = record { events = s .events; causes = s .causes; confli
 noted s (root r) = record { events = s .events; causes = s .causes; conflicts = s .conflicts; roots = s .roots ++ (r ∷ []); nodes = s .nodes }
 noted s (node n) = record { events = s .events; causes = s .causes; conflicts = s .conflicts; roots = s .roots; nodes = s .nodes ++ (n ∷ []) }
 
-unfoldable pub afterRecord : Reading → List ℕ → Reading
-afterRecord g s =
-    let i = itemOf (kindOf s) (payload s) in
-    record { lists = noted (g .lists) i; kind = kindOf s; key = keyOf i }
+unfoldable pub afterItem : Reading → Item → Reading
+afterItem g i = record { lists = noted (g .lists) i; kind = kindNumber i; key = keyOf i }
 
--- The earliest faulty record decides. Each record has bytes, so no sheet has more records than bytes.
+-- FAULTS: a record is judged by a tally of those before it
+
+pub record Tally : Type 0 where
+  -- kind and key of the record before
+  pub kind : ℕ
+  pub key : List ℕ
+  -- the number of events that the sheet names
+  pub events : ℕ
+  -- how many of each other kind were read
+  pub causes : ℕ
+  pub conflicts : ℕ
+  pub roots : ℕ
+  pub nodes : ℕ
+
+unfoldable pub tally : Reading → Tally
+tally g =
+    record {
+      kind = g .kind;
+      key = g .key;
+      events = g .lists .events;
+      causes = length (g .lists .causes);
+      conflicts = length (g .lists .conflicts);
+      roots = length (g .lists .roots);
+      nodes = length (g .lists .nodes);
+    }
+
+-- strictly ascending, byte by byte, a proper prefix coming first
+unfoldable pub ascends : List ℕ → List ℕ → Bool
+ascends xs [] = false
+ascends [] (y ∷ ys) = true
+ascends (x ∷ xs) (y ∷ ys) = ltb x y || (eqb x y && ascends xs ys)
+
+-- first record not kind 1, kind 1 again, or order broken
+unfoldable pub disordered : ℕ → List ℕ → Item → Bool
+disordered kind key i =
+    (eqb kind 0 && not (eqb (kindNumber i) 1))
+    || (not (eqb kind 0) && eqb (kindNumber i) 1)
+    || ltb (kindNumber i) kind
+    || (eqb (kindNumber i) kind && not (isEmpty (keyOf i)) && not (ascends key (keyOf i)))
+
+-- how many of its kind were read before
+unfoldable pub soFar : Tally → Item → ℕ
+soFar t (count n) = cond (eqb (t .kind) 0) 0 1
+soFar t (cause a b) = t .causes
+soFar t (conflict a b) = t .conflicts
+soFar t (root r) = t .roots
+soFar t (node n) = t .nodes
+
+unfoldable pub knownAccess : ℕ → Bool
+knownAccess a = leb a 1
+
+-- a < b, both events of the sheet
+unfoldable pub pairInRange : ℕ → ℕ → ℕ → Bool
+pairInRange events a b = ltb a b && ltb b events
+
+-- 1 to 32 events; a < b; event and access in range; operands earlier nodes
+unfoldable pub inRange : Tally → Item → Bool
+inRange t (count n) = leb 1 n && leb n 32
+inRange t (cause a b) = pairInRange (t .events) a b
+inRange t (conflict a b) = pairInRange (t .events) a b
+inRange t (root r) = knownAccess (r .access) && ltb (r .event) (t .events)
+inRange t (node n) = nodeInRange (t .events) (t .nodes) n
+
+unfoldable pub rootFormed : Item → Bool
+rootFormed (count n) = true
+rootFormed (cause a b) = true
+rootFormed (conflict a b) = true
+rootFormed (root r) = wellFormed (r .path)
+rootFormed (node n) = true
+
+-- the fault of what a record says, or 0
+unfoldable pub itemFault : Tally → Item → ℕ
+itemFault t i =
+    disordered (t .kind) (t .key) i gives 12
+    else leb (kindAt (kindNumber i) .most) (soFar t i) gives 15
+    else not (inRange t i) gives 13
+    else not (rootFormed i) gives 14
+    else 0
+
+-- the record at the front of s
+unfoldable pub itemAt : List ℕ → Item
+itemAt s = itemOf (kindOf s) (payload s)
+
+-- its fault, or 0
+unfoldable pub fault : Reading → List ℕ → ℕ
+fault g s =
+    not (framed s) gives 11
+    else itemFault (tally g) (itemAt s)
+
+-- THE SHEET: the earliest faulty record decides. Each record has bytes, so that as many steps as there are bytes always suffice.
+
 unfoldable pub walk : ℕ → Reading → List ℕ → Answer Sheet
-walk zero g s = good (g .lists)
+walk zero g [] = good (g .lists)
 walk (suc n) g [] = good (g .lists)
+walk zero g (b ∷ s) = refused 11
 walk (suc n) g (b ∷ s) =
     let f = fault g (b ∷ s) in
-    let further = walk n (afterRecord g (b ∷ s)) (behind (b ∷ s)) in
+    let further = walk n (afterItem g (itemAt (b ∷ s))) (behind (b ∷ s)) in
     cond (eqb f 0) further (refused f)
 
 -- empty sheet, or no node
 unfoldable pub withNodes : Answer Sheet → Answer Sheet
-withNodes (good s) = unless (isEmpty (s .nodes) gives 16 else 0) s
+withNodes (good s) = cond (isEmpty (s .nodes)) (refused 16) (good s)
 withNodes (refused n) = refused n
 
+abbrev pub sheetMost : ℕ
+sheetMost = 4096
+
 unfoldable pub sheetOf : List ℕ → Answer Sheet
-sheetOf s = cond (ltb 4096 (length s)) (refused 10) (withNodes (walk (length s) nothingRead s))
+sheetOf s = cond (ltb sheetMost (length s)) (refused 10) (withNodes (walk (length s) nothingRead s))
 
 -- what the sheet says of sessions
 unfoldable pub rulesOf : Sheet → Rules

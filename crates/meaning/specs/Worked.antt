@@ -16,7 +16,7 @@ use Rattle.meaning.specs.Sets
 use Rattle.meaning.specs.Rules
 use Rattle.meaning.specs.Events
 use Rattle.meaning.specs.Policy
-use Rattle.meaning.specs.Refusals
+use Rattle.meaning.specs.Records
 use Rattle.meaning.specs.Path
 use Rattle.meaning.specs.Sheet
 use Rattle.meaning.specs.Question
@@ -36,7 +36,7 @@ pub data Ask : Type 0 where
 pub data Heard : Type 0 where
   told : Told → Heard
   wrote : Told → List ℕ → Heard
-  found : Answer Found → Heard
+  answered : Answer Found → Heard
 
 pub record Case : Type 0 where
   pub sheet : List ℕ
@@ -51,7 +51,7 @@ runs sheet r h (check ∷ rest) = told (History.check r h .told) ∷ runs sheet 
 runs sheet r h (counts ∷ rest) = told (History.counts r h .told) ∷ runs sheet r h rest
 runs sheet r h (record′ s e ∷ rest) = let a = History.recordIn r h s e in told (a .told) ∷ runs sheet r (a .history) rest
 runs sheet r h (save′ buffer ∷ rest) = let w = save r h buffer in wrote (w .told) (w .buffer) ∷ runs sheet r h rest
-runs sheet r h (path access p ∷ rest) = found (question sheet access p) ∷ runs sheet r h rest
+runs sheet r h (path access p ∷ rest) = answered (question sheet access p) ∷ runs sheet r h rest
 
 loaded : List ℕ → List Ask → Answer Sheet → List Heard
 loaded sheet asked (good s) = runs sheet (rulesOf s) [] asked
@@ -95,8 +95,8 @@ W-possible = lists ++ (0xB4 ∷ 0x4D ∷ 0x05 ∷ 0x02 ∷ 0x02 ∷ 0x01 ∷ 0xB
 accepted : Heard
 accepted = told Told.recorded
 
-gives : ℕ → Heard
-gives n = told (Told.begun n)
+begins : ℕ → Heard
+begins n = told (Told.begun n)
 
 refuses : ℕ → Heard
 refuses n = told (Told.refused n)
@@ -114,14 +114,14 @@ w1 : Case
 w1 = record { sheet = W; asked = check ∷ []; expected = allow 9 ∷ [] }
 
 w2 : Case
-w2 = record { sheet = W; asked = begin ∷ record′ 1 1 ∷ []; expected = gives 1 ∷ refuses 26 ∷ [] }
+w2 = record { sheet = W; asked = begin ∷ record′ 1 1 ∷ []; expected = begins 1 ∷ refuses 26 ∷ [] }
 
 w3 : Case
 w3 =
     record {
       sheet = W;
       asked = begin ∷ record′ 1 0 ∷ record′ 1 2 ∷ check ∷ record′ 1 1 ∷ record′ 1 0 ∷ [];
-      expected = gives 1 ∷ accepted ∷ accepted ∷ deny 7 ∷ refuses 25 ∷ refuses 24 ∷ [];
+      expected = begins 1 ∷ accepted ∷ accepted ∷ deny 7 ∷ refuses 25 ∷ refuses 24 ∷ [];
     }
 
 w4 : Case
@@ -129,7 +129,7 @@ w4 =
     record {
       sheet = W;
       asked = begin ∷ record′ 1 0 ∷ record′ 1 2 ∷ record′ 1 3 ∷ counts ∷ check ∷ [];
-      expected = gives 1 ∷ accepted ∷ accepted ∷ accepted ∷ total-letGo-kept 1 1 0 ∷ deny 7 ∷ [];
+      expected = begins 1 ∷ accepted ∷ accepted ∷ accepted ∷ total-letGo-kept 1 1 0 ∷ deny 7 ∷ [];
     }
 
 -- W5 and W6 go on from W4. The buffer has two bytes more than the image, which stay.
@@ -142,7 +142,7 @@ w5 =
           ∷ save′ (1 ∷ 2 ∷ 3 ∷ 4 ∷ 5 ∷ 6 ∷ 7 ∷ 8 ∷ 9 ∷ 10 ∷ 11 ∷ 12 ∷ 13 ∷ 14 ∷ 15 ∷ 16 ∷ 17 ∷ 18 ∷ 19 ∷ 20 ∷ 21 ∷ 22 ∷ 23 ∷ 24 ∷ 25 ∷ 26 ∷ 27 ∷ 28 ∷ [])
           ∷ [];
       expected =
-          gives 1 ∷ accepted ∷ accepted ∷ accepted ∷ gives 2 ∷ deny 5
+          begins 1 ∷ accepted ∷ accepted ∷ accepted ∷ begins 2 ∷ deny 5
           ∷ wrote (Told.saved 26)
           (0xB4 ∷ 0x4D ∷ 0x08 ∷ 0x02 ∷ 0x00 ∷ 0x00 ∷ 0x00 ∷ 0x01 ∷ 0x00 ∷ 0x00 ∷ 0x00 ∷ 0x07 ∷ 0x00 ∷ 0x00 ∷ 0x00 ∷ 0x00 ∷ 0x00 ∷ 0x00 ∷ 0x00
           ∷ 0xB4 ∷ 0x4D ∷ 0x09 ∷ 0x00 ∷ 0x00 ∷ 0x00 ∷ 0x00 ∷ 27 ∷ 28 ∷ [])
@@ -154,7 +154,7 @@ w6 =
     record {
       sheet = W;
       asked = begin ∷ record′ 1 0 ∷ record′ 1 2 ∷ record′ 1 3 ∷ begin ∷ record′ 1 0 ∷ record′ 3 4 ∷ record′ 1 4 ∷ [];
-      expected = gives 1 ∷ accepted ∷ accepted ∷ accepted ∷ gives 2 ∷ refuses 23 ∷ refuses 21 ∷ refuses 22 ∷ [];
+      expected = begins 1 ∷ accepted ∷ accepted ∷ accepted ∷ begins 2 ∷ refuses 23 ∷ refuses 21 ∷ refuses 22 ∷ [];
     }
 
 w7 : Case
@@ -165,7 +165,7 @@ w7 =
           begin ∷ begin ∷ record′ 2 0 ∷ record′ 2 1 ∷ record′ 2 3 ∷ counts ∷ check
           ∷ record′ 1 0 ∷ record′ 1 2 ∷ check ∷ record′ 1 3 ∷ counts ∷ check ∷ [];
       expected =
-          gives 1 ∷ gives 2 ∷ accepted ∷ accepted ∷ accepted ∷ total-letGo-kept 2 0 2 ∷ allow 9
+          begins 1 ∷ begins 2 ∷ accepted ∷ accepted ∷ accepted ∷ total-letGo-kept 2 0 2 ∷ allow 9
           ∷ accepted ∷ accepted ∷ deny 5 ∷ accepted ∷ total-letGo-kept 2 2 0 ∷ deny 5 ∷ [];
     }
 
@@ -176,7 +176,7 @@ w8 =
       sheet = W-previous;
       asked = check ∷ begin ∷ check ∷ begin ∷ check ∷ record′ 1 0 ∷ record′ 1 1 ∷ record′ 1 3 ∷ counts ∷ check ∷ [];
       expected =
-          deny 1 ∷ gives 1 ∷ deny 1 ∷ gives 2 ∷ allow 3 ∷ accepted ∷ accepted ∷ accepted ∷ total-letGo-kept 2 1 1 ∷ allow 3 ∷ [];
+          deny 1 ∷ begins 1 ∷ deny 1 ∷ begins 2 ∷ allow 3 ∷ accepted ∷ accepted ∷ accepted ∷ total-letGo-kept 2 1 1 ∷ allow 3 ∷ [];
     }
 
 w9 : Case
@@ -184,7 +184,7 @@ w9 =
     record {
       sheet = W-possible;
       asked = begin ∷ record′ 1 0 ∷ check ∷ record′ 1 1 ∷ check ∷ [];
-      expected = gives 1 ∷ accepted ∷ allow 3 ∷ accepted ∷ deny 1 ∷ [];
+      expected = begins 1 ∷ accepted ∷ allow 3 ∷ accepted ∷ deny 1 ∷ [];
     }
 
 -- /srv/mod1, as it stands in the sheet
@@ -192,10 +192,10 @@ mod1 : List ℕ
 mod1 = 0x2F ∷ 0x73 ∷ 0x72 ∷ 0x76 ∷ 0x2F ∷ 0x6D ∷ 0x6F ∷ 0x64 ∷ 0x31 ∷ []
 
 event1 : List ℕ → Heard
-event1 rest = found (good (record { event = 1; root = mod1; rest = rest }))
+event1 rest = answered (good (record { event = 1; root = mod1; rest = rest }))
 
 none : ℕ → Heard
-none n = found (Answer.refused n)
+none n = answered (Answer.refused n)
 
 -- writes: /srv/mod1/a, /srv/mod1, /srv/mod10/a; a read: /srv/mod1/a
 w10 : Case
@@ -230,16 +230,16 @@ table = w1 ∷ w2 ∷ w3 ∷ w4 ∷ w5 ∷ w6 ∷ w7 ∷ w8 ∷ w9 ∷ w10 ∷ w
 
 pub worked : map heard table ≡ map (λ c. c .expected) table
 unfolding
-    table w1 w2 w3 w4 w5 w6 w7 w8 w9 w10 w11 heard loaded runs lists W W-previous W-possible accepted gives refuses allow deny total-letGo-kept mod1 event1 none
+    table w1 w2 w3 w4 w5 w6 w7 w8 w9 w10 w11 heard loaded runs lists W W-previous W-possible accepted begins refuses allow deny total-letGo-kept mod1 event1 none
     Lists.all Lists.isEmpty Lists.contains Lists.same
     Sets.some Sets.every Sets.mem Sets.setOf Sets.added Sets.within Sets.apart
     Rules.nodeInRange
     Events.somePair Events.chain Events.neededBy Events.conflictingWith Events.possible Events.supported Events.addable Events.closed
     Policy.session Policy.holds Policy.formulaOf Policy.formulas Policy.nodeHolds Policy.row Policy.orOneEmpty Policy.lastRow Policy.satisfies
-    Refusals.unless
-    Path.segmentOk Path.before Path.segments Path.wellFormed Path.edge Path.restAfter Path.covers
-    Sheet.kinds Sheet.kindAt Sheet.knownKind Sheet.operands Sheet.nodeOf Sheet.nodeFits Sheet.marked Sheet.kindOf Sheet.payload Sheet.behind Sheet.whole Sheet.fits Sheet.framed Sheet.itemOf Sheet.nothingRead Sheet.keyOf Sheet.ascends Sheet.disordered Sheet.soFar Sheet.inRange Sheet.rootFormed Sheet.fault Sheet.noted Sheet.afterRecord Sheet.walk Sheet.withNodes Sheet.sheetOf Sheet.rulesOf
-    Question.longer Question.longest Question.found Question.pathFault Question.pathIn Question.askedOf Question.question
+    Records.headOf Records.marked Records.kindOf
+    Path.segmentOk Path.prepend Path.segments Path.wellFormed Path.edge Path.restAfter Path.covers
+    Sheet.kinds Sheet.knownKind Sheet.kindAt Sheet.kindNumber Sheet.nodeKinds Sheet.nodeKind Sheet.nodeFits Sheet.nodeOf Sheet.payload Sheet.behind Sheet.whole Sheet.fits Sheet.framed Sheet.itemOf Sheet.nothingRead Sheet.keyOf Sheet.noted Sheet.afterItem Sheet.tally Sheet.ascends Sheet.disordered Sheet.soFar Sheet.knownAccess Sheet.pairInRange Sheet.inRange Sheet.rootFormed Sheet.itemFault Sheet.itemAt Sheet.fault Sheet.walk Sheet.withNodes Sheet.sheetOf Sheet.rulesOf
+    Question.longer Question.better Question.longest Question.found Question.pathFault Question.pathIn Question.askedOf Question.question
     History.orRefused History.letGo History.keptOf History.carried History.beginFault History.begin History.withSession History.recordFault History.recordIn History.check History.counts
-    Image.bytesOf Image.markOf Image.sessionBytes Image.imageBytes Image.imageOf Image.save
+    Image.bytesOf Image.sessionBytes Image.imageBytes Image.imageOf Image.save
 worked = refl
