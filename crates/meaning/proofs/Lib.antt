@@ -3,3 +3,5 @@ pub mod SetLaws
 pub mod Since
 pub mod Rows
 pub mod Chains
+pub mod Growth
+pub mod Accepted

@@ -1,14 +1,16 @@
 -- Sets that are written as numbers: what is in a set that was made by its members.
 -- Assumes nothing.
-use Prim.Native.Nat.{ℕ, zero, suc, _+_, _-_, _*_, _/_, _%_, _^_, _≤_, _<_}
+use Prim.Native.Nat.{ℕ, zero, suc, _+_, _-_, _*_, _/_, _%_, _^_, _≤_, _<_, max}
 use mathlib.Core.Path.{_≡_, refl, sym, ap, _∙_}
-use mathlib.Core.Bool.{Bool, true, false, false≢true, cond}
+use mathlib.Core.Bool.{Bool, true, false, false≢true, cond, _||_}
 use mathlib.Core.Logic.{⊎-elim}
-use native.Mathlib.Nat.{not-suc-le-zero, le-of-suc-le-suc, eq-or-lt-of-le, lt-of-lt-of-le, pow-suc, div-eq-of-lt, add-mul-div-right, add-mul-mod-self-right, add-comm, one-mul, add-zero}
+use native.Mathlib.Nat.{not-suc-le-zero, le-of-suc-le-suc, eq-or-lt-of-le, lt-of-lt-of-le, pow-suc, div-eq-of-lt, add-mul-div-right, add-mul-mod-self-right, add-comm, one-mul, add-zero, zero-add, mod-one, mod-lt, mod-eq-of-lt}
+use native.Mathlib.Numerals.{one-add}
 use native.Mathlib.Omega.{arith}
 use lib.Dec.{eqb, ltb}
-use borrow.Author.Tests.{ltb-true, ltb-false}
-use lib.Pow.{pow-pos, pow-mono, pow-add, high}
+use borrow.Author.Tests.{ltb-true, ltb-false, eqb-true, eq-eqb}
+use lib.Pow.{pow-pos, pow-mono, pow-lt, pow-add, high, mod-pow-add}
+use lib.Bits.{bitOr, or-shr, or-step, or-lt}
 use Rattle.meaning.specs.Sets.{mem, setOf}
 
 -- nothing is in the empty set
@@ -76,3 +78,59 @@ mem-below n p i e = go (ltb i n) refl
 
 pub mem-of : (n : ℕ) (p : ℕ → Bool) (i : ℕ) → mem i (setOf n p) ≡ true → p i ≡ true
 mem-of n p i e = sym (mem-setOf n p i (mem-below n p i e)) ∙ e
+
+-- SETS AS WHOLE NUMBERS
+
+-- two tests that say the same
+pub same-test : (a b : Bool) → (a ≡ true → b ≡ true) → (b ≡ true → a ≡ true) → a ≡ b
+same-test true b f g = sym (f refl)
+same-test false true f g = g refl
+same-test false false f g = refl
+
+two : (P : ℕ → Type 0) → P 0 → P 1 → (u : ℕ) → u < 2 → P u
+two P z o zero l = z
+two P z o (suc zero) l = o
+two P z o (suc (suc u)) l = absurd (omega arith)
+
+-- the members below n of a number are its lowest n bits
+members : (n x : ℕ) → setOf n (λ i. mem i x) ≡ x % 2 ^ n
+unfolding setOf mem
+members zero x = sym (mod-one x)
+members (suc n) x =
+    ap (λ (y : ℕ). y + cond (eqb (x / 2 ^ n % 2) 1) (2 ^ n) 0) (members n x)
+    ∙ two (λ (u : ℕ). x % 2 ^ n + cond (eqb u 1) (2 ^ n) 0 ≡ u * 2 ^ n + x % 2 ^ n) (omega arith) (omega arith) (x / 2 ^ n % 2) (mod-lt (x / 2 ^ n) (omega arith))
+    ∙ sym (mod-pow-add x 1 n)
+    ∙ ap (λ (k : ℕ). x % 2 ^ k) (one-add n)
+
+-- a number below 2 ^ n is known by its members
+pub set-ext : (n x y : ℕ) → x < 2 ^ n → y < 2 ^ n → ((i : ℕ) → i < n → mem i x ≡ mem i y) → x ≡ y
+set-ext n x y h k e =
+    sym (mod-eq-of-lt h) ∙ sym (members n x) ∙ setOf-ext n (λ i. mem i x) (λ i. mem i y) e ∙ members n y ∙ mod-eq-of-lt k
+
+odd-or : (u v : ℕ) → bitOr u v % 2 ≡ max (u % 2) (v % 2)
+odd-or u v = omega (arith, or-step u v)
+
+pub mem-or : (i x y : ℕ) → mem i (bitOr x y) ≡ (mem i x || mem i y)
+unfolding mem
+mem-or i x y =
+    ap (λ (z : ℕ). eqb (z % 2) 1) (or-shr x y i)
+    ∙ ap (λ (z : ℕ). eqb z 1) (odd-or (x / 2 ^ i) (y / 2 ^ i))
+    ∙ two (λ (u : ℕ). eqb (max u (y / 2 ^ i % 2)) 1 ≡ (eqb u 1 || eqb (y / 2 ^ i % 2) 1))
+    (two (λ (v : ℕ). eqb (max 0 v) 1 ≡ (eqb 0 1 || eqb v 1)) refl refl (y / 2 ^ i % 2) (mod-lt (y / 2 ^ i) (omega arith)))
+    (two (λ (v : ℕ). eqb (max 1 v) 1 ≡ (eqb 1 1 || eqb v 1)) refl refl (y / 2 ^ i % 2) (mod-lt (y / 2 ^ i) (omega arith)))
+    (x / 2 ^ i % 2)
+    (mod-lt (x / 2 ^ i) (omega arith))
+
+pub mem-one : (i a : ℕ) → mem i (2 ^ a) ≡ eqb i a
+mem-one i a = same-test (mem i (2 ^ a)) (eqb i a) (λ e. go e (ltb i a) refl (ltb a i) refl) (λ e. rw (eqb-true i a e) top)
+  where
+    top : mem a (2 ^ a) ≡ true
+    top = ap (mem a) (sym (zero-add (2 ^ a))) ∙ mem-top a 0 (pow-pos a) true
+
+    below : i < a → mem i (2 ^ a) ≡ false
+    below l = ap (mem i) (sym (zero-add (2 ^ a))) ∙ mem-low a 0 (pow-pos a) i true l ∙ mem-zero i
+
+    go : mem i (2 ^ a) ≡ true → (b : Bool) → ltb i a ≡ b → (d : Bool) → ltb a i ≡ d → eqb i a ≡ true
+    go e true l d m = absurd (false≢true (sym (below (ltb-true i a l)) ∙ e))
+    go e false l true m = absurd (false≢true (sym (mem-beyond (suc a) i (2 ^ a) (pow-lt (omega arith)) (ltb-true a i m)) ∙ e))
+    go e false l false m = let p = ltb-false i a l in let q = ltb-false a i m in eq-eqb i a (omega arith)

@@ -212,12 +212,12 @@ unfoldable pub pairInRange : ℕ → ℕ → ℕ → Bool
 pairInRange events a b = ltb a b && ltb b events
 
 -- 1 to 32 events; a < b; event and access in range; operands earlier nodes
-unfoldable pub inRange : Tally → Item → Bool
-inRange t (count n) = leb 1 n && leb n 32
-inRange t (cause a b) = pairInRange (t .events) a b
-inRange t (conflict a b) = pairInRange (t .events) a b
-inRange t (root r) = knownAccess (r .access) && ltb (r .event) (t .events)
-inRange t (node n) = nodeInRange (t .events) (t .nodes) n
+unfoldable pub inRange : ℕ → ℕ → Item → Bool
+inRange events earlier (count n) = leb 1 n && leb n 32
+inRange events earlier (cause a b) = pairInRange events a b
+inRange events earlier (conflict a b) = pairInRange events a b
+inRange events earlier (root r) = knownAccess (r .access) && ltb (r .event) events
+inRange events earlier (node n) = nodeInRange events earlier n
 
 unfoldable pub rootFormed : Item → Bool
 rootFormed (count n) = true
@@ -231,7 +231,7 @@ unfoldable pub itemFault : Tally → Item → ℕ
 itemFault t i =
     disordered (t .kind) (t .key) i gives 12
     else leb (kindAt (kindNumber i) .most) (soFar t i) gives 15
-    else not (inRange t i) gives 13
+    else not (inRange (t .events) (t .nodes) i) gives 13
     else not (rootFormed i) gives 14
     else 0
 

@@ -1,0 +1,175 @@
+-- A record is framed exactly when each of the code's tests passes: the laws that its tests need, one for each way out.
+-- Assumes nothing.
+use Prim.Native.Nat.{ℕ, zero, suc, _+_, _-_, _≤_, _<_}
+use mathlib.Core.Path.{_≡_, refl, sym, ap, ap₂, _∙_}
+use mathlib.Core.Bool.{Bool, true, false, not, cond, _&&_, _||_}
+use mathlib.Core.List.{List, [], _∷_, map}
+use native.Mathlib.Nat.{add-zero}
+use native.Mathlib.Omega.{arith}
+use lib.Dec.{eqb, leb, ltb}
+use lib.ListN.{length, getD, take, drop, length-drop, length-take, List·getD-map}
+use lib.Seq.{getD-drop, drop-drop}
+use borrow.Author.Tests.{lt-ltb, le-ltb, le-leb, lt-leb, eq-eqb, ne-eqb, eqb-true, eqb-false}
+use Rattle.meaning.specs.Records.{marked, kindOf}
+use Rattle.records.specs.declared.Record.the-variants.{Whole, Broken, End}
+use Rattle.records.specs.Frames.{frameAt, recordAt}
+use Rattle.meaning.specs.Sheet.{Kind, NodeKind, kinds, kindAt, knownKind, nodeKinds, nodeKind, nodeFits, payload, whole, fits, framed}
+
+-- NODES
+
+-- the code's list of operand counts
+takes-at : (k : ℕ) → getD (0 ∷ 1 ∷ 1 ∷ 1 ∷ 2 ∷ 2 ∷ 1 ∷ 2 ∷ []) k 0 ≡ nodeKind k .takes
+unfolding nodeKinds nodeKind
+takes-at k = List·getD-map (λ (x : NodeKind). x .takes) nodeKinds k (record { takes = 0; makes = λ a b. Rattle.meaning.specs.Rules.Node.always })
+
+less-one : (n t : ℕ) → (n ≡ 0 → ⊥) → eqb (n - 1) t ≡ eqb n (1 + t)
+less-one n t h = go (eqb (n - 1) t) refl
+  where
+    go : (b : Bool) → eqb (n - 1) t ≡ b → b ≡ eqb n (1 + t)
+    go true e = let q = eqb-true (n - 1) t e in sym (eq-eqb n (1 + t) (omega arith))
+    go false e = let q = eqb-false (n - 1) t e in sym (ne-eqb n (1 + t) (λ (z : n ≡ 1 + t). q (omega arith)))
+
+module _ (p : List ℕ) where
+  pub node-empty : length p ≡ 0 → nodeFits p ≡ false
+  unfolding nodeFits nodeKinds nodeKind
+  node-empty e = go p e
+    where
+      go : (l : List ℕ) → length l ≡ 0 → nodeFits l ≡ false
+      go [] e = refl
+      go (b ∷ l) e = absurd (omega arith)
+
+  pub node-unknown : 8 ≤ getD p 0 0 → nodeFits p ≡ false
+  unfolding nodeFits nodeKinds
+  node-unknown h = rw (le-ltb (getD p 0 0) 8 h)
+
+  pub node-known :
+      (length p ≡ 0 → ⊥) → getD p 0 0 < 8
+      → eqb (length p - 1) (getD (0 ∷ 1 ∷ 1 ∷ 1 ∷ 2 ∷ 2 ∷ 1 ∷ 2 ∷ []) (getD p 0 0) 0) ≡ nodeFits p
+  unfolding nodeFits nodeKinds
+  node-known n h = rw (lt-ltb (getD p 0 0) 8 h) (less-one (length p) _ n ∙ ap (λ (t : ℕ). eqb (length p) (1 + t)) (takes-at (getD p 0 0)))
+
+-- KINDS
+
+no-kind : Kind
+no-kind = record { least = 0; greatest = 0; most = 0 }
+
+least-at : (k : ℕ) → getD (1 ∷ 2 ∷ 2 ∷ 4 ∷ 1 ∷ []) (k - 1) 0 ≡ kindAt k .least
+unfolding kinds kindAt no-kind
+least-at k = List·getD-map (λ (x : Kind). x .least) kinds (k - 1) no-kind
+
+greatest-at : (k : ℕ) → getD (1 ∷ 2 ∷ 2 ∷ 122 ∷ 3 ∷ []) (k - 1) 0 ≡ kindAt k .greatest
+unfolding kinds kindAt no-kind
+greatest-at k = List·getD-map (λ (x : Kind). x .greatest) kinds (k - 1) no-kind
+
+and-false : (a : Bool) → (a && false) ≡ false
+and-false true = refl
+and-false false = refl
+
+module _ (k : ℕ) (p : List ℕ) where
+  pub kind-low : k < 1 → (knownKind k && fits k p) ≡ false
+  unfolding knownKind
+  kind-low h = rw (lt-leb 1 k h)
+
+  pub kind-high : 5 < k → (knownKind k && fits k p) ≡ false
+  unfolding knownKind kinds
+  kind-high h = ap (λ (b : Bool). leb 1 k && b && fits k p) (lt-leb k 5 h) ∙ ap (λ (b : Bool). b && fits k p) (and-false (leb 1 k))
+
+  module _ (l : 1 ≤ k) (h : k ≤ 5) where
+    known : knownKind k ≡ true
+    unfolding knownKind kinds
+    known = rw (le-leb 1 k l, le-leb k 5 h)
+
+    pub kind-short : length p < getD (1 ∷ 2 ∷ 2 ∷ 4 ∷ 1 ∷ []) (k - 1) 0 → (knownKind k && fits k p) ≡ false
+    unfolding fits
+    kind-short s = rw (known, lt-leb (kindAt k .least) (length p) (rw least-at at s))
+
+    pub kind-long : getD (1 ∷ 2 ∷ 2 ∷ 122 ∷ 3 ∷ []) (k - 1) 0 < length p → (knownKind k && fits k p) ≡ false
+    unfolding fits
+    kind-long s =
+        rw (known, lt-leb (length p) (kindAt k .greatest) (rw greatest-at at s))
+        (ap (λ (b : Bool). b && (not (eqb k 5) || nodeFits p)) (and-false (leb (kindAt k .least) (length p))))
+
+    module _ (a : getD (1 ∷ 2 ∷ 2 ∷ 4 ∷ 1 ∷ []) (k - 1) 0 ≤ length p) (b : length p ≤ getD (1 ∷ 2 ∷ 2 ∷ 122 ∷ 3 ∷ []) (k - 1) 0) where
+      kind-sized : (knownKind k && fits k p) ≡ (not (eqb k 5) || nodeFits p)
+      unfolding fits
+      kind-sized =
+          rw (known, le-leb (kindAt k .least) (length p) (rw least-at at a), le-leb (length p) (kindAt k .greatest) (rw greatest-at at b))
+
+      pub kind-node : k ≡ 5 → (knownKind k && fits k p) ≡ nodeFits p
+      kind-node e = kind-sized ∙ ap (λ (t : Bool). not t || nodeFits p) (eq-eqb k 5 e)
+
+      pub kind-other : (k ≡ 5 → ⊥) → (knownKind k && fits k p) ≡ true
+      kind-other n = kind-sized ∙ ap (λ (t : Bool). not t || nodeFits p) (ne-eqb k 5 n)
+
+-- RECORDS
+
+module _ (s : List ℕ) (at : ℕ) where
+  abbrev r : List ℕ
+  r = drop at s
+
+  byte : (i : ℕ) → getD r i 0 ≡ getD s (at + i) 0
+  byte i = getD-drop at s i 0
+
+  first : getD r 0 0 ≡ getD s at 0
+  first = byte 0 ∙ ap (λ (i : ℕ). getD s i 0) (add-zero at)
+
+  pub broken-short : length s - at < 4 → framed r ≡ false
+  unfolding framed whole
+  broken-short h = rw (lt-leb 4 (length r) (rw length-drop h))
+
+  module _ (l : 4 ≤ length s - at) where
+    pub broken-cut : length s - (at + 4) < getD s (at + 3) 0 → framed r ≡ false
+    unfolding framed whole
+    broken-cut h = rw (le-leb 4 (length r) (rw length-drop l), lt-leb (4 + getD r 3 0) (length r) (rw (length-drop, byte 3) (omega arith)))
+
+    module _ (m : getD s (at + 3) 0 ≤ length s - (at + 4)) where
+      is-whole : whole r ≡ true
+      unfolding whole
+      is-whole = rw (le-leb 4 (length r) (rw length-drop l), le-leb (4 + getD r 3 0) (length r) (rw (length-drop, byte 3) (omega arith)))
+
+      pub broken-mark : (getD s at 0 ≡ 0xB4 → ⊥) → framed r ≡ false
+      unfolding framed marked
+      broken-mark n = rw (is-whole, ne-eqb (getD r 0 0) 0xB4 (λ e. n (sym first ∙ e)))
+
+      module _ (a : getD s at 0 ≡ 0xB4) where
+        pub broken-second : (getD s (at + 1) 0 ≡ 0x4D → ⊥) → framed r ≡ false
+        unfolding framed marked
+        broken-second n = rw (is-whole, eq-eqb (getD r 0 0) 0xB4 (first ∙ a), ne-eqb (getD r 1 0) 0x4D (λ e. n (sym (byte 1) ∙ e)))
+
+        module _ (b : getD s (at + 1) 0 ≡ 0x4D) where
+          -- then the payload decides
+          pub framed-fits : framed r ≡ (knownKind (getD s (at + 2) 0) && fits (getD s (at + 2) 0) (take (getD s (at + 3) 0) (drop (at + 4) s)))
+          unfolding framed marked kindOf payload
+          framed-fits =
+              rw (is-whole, eq-eqb (getD r 0 0) 0xB4 (first ∙ a), eq-eqb (getD r 1 0) 0x4D (byte 1 ∙ b))
+              (ap₂ (λ (k : ℕ) (p : List ℕ). knownKind k && fits k p) (byte 2) (ap₂ (λ (n : ℕ) (l : List ℕ). take n l) (byte 3) (drop-drop 4 at s)))
+
+          -- the same, of what code found of the part from at + 4 on
+          pub framed-by :
+              (ok : Bool)
+              → ok ≡ (knownKind (getD s (at + 2) 0) && fits (getD s (at + 2) 0) (take (at + 4 + getD s (at + 3) 0 - (at + 4)) (drop (at + 4) s)))
+              → framed r ≡ ok
+          framed-by ok e =
+              let w : at + 4 + getD s (at + 3) 0 - (at + 4) ≡ getD s (at + 3) 0 = omega arith in
+              framed-fits ∙ sym (e ∙ ap (λ (n : ℕ). knownKind (getD s (at + 2) 0) && fits (getD s (at + 2) 0) (take n (drop (at + 4) s))) w)
+
+-- WHAT STANDS AT A PLACE
+
+pub ends : (s : List ℕ) (at : ℕ) → length s ≤ at → End ≡ recordAt s at
+unfolding recordAt
+ends s at h = rw (le-leb (length s) at h)
+
+pub breaks : (s : List ℕ) (at : ℕ) → at < length s → framed (drop at s) ≡ false → Broken ≡ recordAt s at
+unfolding recordAt
+breaks s at h e = rw (lt-leb (length s) at h, e)
+
+pub stands : (s : List ℕ) (at : ℕ) → at < length s → framed (drop at s) ≡ true → Whole (frameAt s at) ≡ recordAt s at
+unfolding recordAt
+stands s at h e = rw (lt-leb (length s) at h, e)
+
+-- the frame, by the sheet's own bytes
+pub frame-bytes :
+    (s : List ℕ) (at : ℕ)
+    → frameAt s at ≡ record { kind = getD s (at + 2) 0; start = at + 4; len = getD s (at + 3) 0; next = at + 4 + getD s (at + 3) 0 }
+unfolding frameAt kindOf
+frame-bytes s at = rw (getD-drop at s 2 0, getD-drop at s 3 0)
