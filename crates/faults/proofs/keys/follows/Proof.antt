@@ -1,0 +1,67 @@
+-- `faults::keys::follows` meets its contract: each way out is a law of its own.
+-- Assumes nothing.
+use mathlib.Core.Path.{_≡_, sym, ap, ap₂, _∙_}
+use mathlib.Core.Logic.{inl, inr}
+use lib.Dec.{ltb}
+use Rattle.meaning.specs.Sheet.{ascends}
+use Rattle.faults.proofs.Order.{keyless, follows-less, follows-more, follows-root, follows-pair}
+use borrow.Author.Needs.{needs}
+use Rattle.faults.proofs.keys.follows.Statement.{statement}
+use Rattle.faults.proofs.keys.follows.Tie as tie
+
+returns : tie.Need-returns
+returns c = sym (keyless (c .before .before .before .args .kind) (c .before .before .before .args .last .now) (c .before .before .before .args .p .now) (inl (c .if1 .taken)))
+
+returns-2 : tie.Need-returns-2
+returns-2 c = sym (keyless (c .before .before .before .before .args .kind) (c .before .before .before .before .args .last .now) (c .before .before .before .before .args .p .now) (inr (c .if2 .taken)))
+
+byte-requires : tie.Need-byte-requires
+byte-requires c κs = search needs
+
+byte-requires-2 : tie.Need-byte-requires-2
+byte-requires-2 c κs = search needs
+
+returns-3 : tie.Need-returns-3
+returns-3 c = sym (follows-less (c .before .before .before .before .before .before .before .args .kind) (c .before .before .before .before .before .before .before .args .last .now) (c .before .before .before .before .before .before .before .args .p .now) (c .before .before .before .before .before .before .before .pre .0) (c .before .before .before .before .before .before .before .pre .1) (c .before .before .before .before .if1 .left) (c .before .before .before .if2 .left) (c .before .before .byte .result) (c .before .byte2 .result) (c .before .before .byte .ensures) (c .before .byte2 .ensures) (c .if3 .taken))
+
+returns-4 : tie.Need-returns-4
+returns-4 c = sym (follows-more (c .before .before .before .before .before .before .before .before .args .kind) (c .before .before .before .before .before .before .before .before .args .last .now) (c .before .before .before .before .before .before .before .before .args .p .now) (c .before .before .before .before .before .before .before .before .pre .0) (c .before .before .before .before .before .before .before .before .pre .1) (c .before .before .before .before .before .if1 .left) (c .before .before .before .before .if2 .left) (c .before .before .before .byte .result) (c .before .before .byte2 .result) (c .before .before .before .byte .ensures) (c .before .before .byte2 .ensures) (c .if4 .taken))
+
+tail-requires : tie.Need-tail-requires
+tail-requires c κs = search needs
+
+tail-requires-2 : tie.Need-tail-requires-2
+tail-requires-2 c κs = search needs
+
+ascends-requires : tie.Need-ascends-requires
+ascends-requires c κs = search needs
+
+returns-5 : tie.Need-returns-5
+returns-5 c = c .ascends .ensures ∙ ap₂ ascends (c .before .before .tail .ensures) (c .before .tail2 .ensures) ∙ sym (follows-root (c .before .before .before .before .before .before .before .before .before .before .before .before .args .kind) (c .before .before .before .before .before .before .before .before .before .before .before .before .args .last .now) (c .before .before .before .before .before .before .before .before .before .before .before .before .args .p .now) (c .before .before .before .before .before .before .before .before .before .before .before .before .pre .0) (c .before .before .before .before .before .before .before .before .before .before .before .before .pre .1) (c .before .before .before .before .before .before .before .before .before .if1 .left) (c .before .before .before .before .before .before .before .before .if2 .left) (c .before .before .before .before .before .before .before .byte .result) (c .before .before .before .before .before .before .byte2 .result) (c .before .before .before .before .before .before .before .byte .ensures) (c .before .before .before .before .before .before .byte2 .ensures) (c .before .before .before .before .before .if3 .left) (c .before .before .before .before .if4 .left) (c .before .before .before .if5 .taken))
+
+byte-requires-3 : tie.Need-byte-requires-3
+byte-requires-3 c κs = search needs
+
+byte-requires-4 : tie.Need-byte-requires-4
+byte-requires-4 c κs = search needs
+
+returns-6 : tie.Need-returns-6
+returns-6 c = ap₂ ltb (c .before .byte3 .ensures) (c .byte4 .ensures) ∙ sym (follows-pair (c .before .before .before .before .before .before .before .before .before .before .before .args .kind) (c .before .before .before .before .before .before .before .before .before .before .before .args .last .now) (c .before .before .before .before .before .before .before .before .before .before .before .args .p .now) (c .before .before .before .before .before .before .before .before .before .before .before .pre .0) (c .before .before .before .before .before .before .before .before .before .before .before .pre .1) (c .before .before .before .before .before .before .before .before .if1 .left) (c .before .before .before .before .before .before .before .if2 .left) (c .before .before .before .before .before .before .byte .result) (c .before .before .before .before .before .byte2 .result) (c .before .before .before .before .before .before .byte .ensures) (c .before .before .before .before .before .byte2 .ensures) (c .before .before .before .before .if3 .left) (c .before .before .before .if4 .left) (c .before .before .if5 .left))
+
+pub follows-spec : {M : Type 1} → statement M
+follows-spec =
+    tie.close
+    (tie.spec
+    returns
+    returns-2
+    byte-requires
+    byte-requires-2
+    returns-3
+    returns-4
+    tail-requires
+    tail-requires-2
+    ascends-requires
+    returns-5
+    byte-requires-3
+    byte-requires-4
+    returns-6)
