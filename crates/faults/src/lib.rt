@@ -7,7 +7,7 @@ ghost use Rattle.meaning.specs.Sheet.{itemOf, rootFormed, itemFault, soFar};
 ghost use Rattle.faults.specs.Tallies.{Inside, payloadIn, itemIn, tallied};
 use records::Frame;
 
-mod keys;
+pub mod keys;
 mod ranges;
 
 // What of the records before a record decides on it: the last of them (of kind 0 where there is none), the number of events, and how many

@@ -52,6 +52,8 @@ pub record Lawful (g : Reading) : Type 0 where
   pub low : g .kind ≡ 2 → (p q : ℕ) → Listed (g .lists .causes) p q → p ≤ getD (g .key) 0 0
   pub causes-up : Upward (g .lists .causes) (g .lists .events)
   pub conflicts-up : Upward (g .lists .conflicts) (g .lists .events)
+  pub few-causes : length (g .lists .causes) ≤ 64
+  pub few-conflicts : length (g .lists .conflicts) ≤ 64
   pub roots-formed : (r : Root) → List·Memᴰ r (g .lists .roots) → wellFormed (r .path) ≡ true
   pub few-roots : length (g .lists .roots) ≤ 16
   pub nodes-in : (n : ℕ) → n < length (g .lists .nodes) → nodeInRange (g .lists .events) n (getD (g .lists .nodes) n Node.always) ≡ true
@@ -68,6 +70,8 @@ lawful-start =
       low = λ e p q m. absurd (List·Memᴰ·not-nil m);
       causes-up = λ p q m. absurd (List·Memᴰ·not-nil m);
       conflicts-up = λ p q m. absurd (List·Memᴰ·not-nil m);
+      few-causes = omega arith;
+      few-conflicts = omega arith;
       roots-formed = λ r m. absurd (List·Memᴰ·not-nil m);
       few-roots = omega arith;
       nodes-in = λ n l. absurd (omega arith);
@@ -99,7 +103,7 @@ module _ (kind : ℕ) (key : List ℕ) (i : Item) (d : disordered kind key i ≡
       four-false (eqb kind 0 && not (eqb k 1)) (not (eqb kind 0) && eqb k 1) (ltb k kind)
       (eqb k kind && not (isEmpty (keyOf i)) && not (ascends key (keyOf i))) d
 
-  first-only : k ≡ 1 → kind ≡ 0
+  pub first-only : kindNumber i ≡ 1 → kind ≡ 0
   first-only e = go (eqb kind 0) refl
     where
       go : (t : Bool) → eqb kind 0 ≡ t → kind ≡ 0
@@ -147,6 +151,8 @@ module _ (g : Reading) (w : Lawful g) where
         low = λ q. absurd (omega arith);
         causes-up = λ x y m. absurd (List·Memᴰ·not-nil (subst (λ (s : Sheet). Listed (s .causes) x y) e m));
         conflicts-up = λ x y m. absurd (List·Memᴰ·not-nil (subst (λ (s : Sheet). Listed (s .conflicts) x y) e m));
+        few-causes = w .few-causes;
+        few-conflicts = w .few-conflicts;
         roots-formed = λ r m. absurd (List·Memᴰ·not-nil (subst (λ (s : Sheet). List·Memᴰ r (s .roots)) e m));
         few-roots = w .few-roots;
         nodes-in = λ m l. absurd (let q : length (g .lists .nodes) ≡ 0 = ap (λ (s : Sheet). length (s .nodes)) e in omega arith);
@@ -154,7 +160,7 @@ module _ (g : Reading) (w : Lawful g) where
       }
 
   after-cause : (a b : ℕ) → Passed (tally g) (cause a b) → Lawful (afterItem g (cause a b))
-  unfolding afterItem noted kindNumber keyOf isEmpty ascends inRange tally
+  unfolding afterItem noted kindNumber keyOf isEmpty ascends inRange soFar kindAt kinds tally
   after-cause a b p =
       record {
         unread = λ q. absurd (omega arith);
@@ -164,6 +170,8 @@ module _ (g : Reading) (w : Lawful g) where
         low = λ q x y m. ⊎-elim (lower x y) (λ s. le-of-eq (ap (λ (c : ℕ × ℕ). c .0) (List·Memᴰ·eq-of-singleton s))) (List·Memᴰ·append-cases (g .lists .causes) m);
         causes-up = with-pair (g .lists .causes) (g .lists .events) a b (w .causes-up) (p .ranged);
         conflicts-up = w .conflicts-up;
+        few-causes = rw length-append (let l = leb-false 64 (length (g .lists .causes)) (p .room) in omega arith);
+        few-conflicts = w .few-conflicts;
         roots-formed = w .roots-formed;
         few-roots = w .few-roots;
         nodes-in = w .nodes-in;
@@ -188,7 +196,7 @@ module _ (g : Reading) (w : Lawful g) where
           (eq-or-lt-of-le (upward (g .kind) (g .key) (cause a b) (p .ordered)))
 
   after-conflict : (a b : ℕ) → Passed (tally g) (conflict a b) → Lawful (afterItem g (conflict a b))
-  unfolding afterItem noted kindNumber inRange tally
+  unfolding afterItem noted kindNumber inRange soFar kindAt kinds tally
   after-conflict a b p =
       record {
         unread = λ q. absurd (omega arith);
@@ -198,6 +206,8 @@ module _ (g : Reading) (w : Lawful g) where
         low = λ q. absurd (omega arith);
         causes-up = w .causes-up;
         conflicts-up = with-pair (g .lists .conflicts) (g .lists .events) a b (w .conflicts-up) (p .ranged);
+        few-causes = w .few-causes;
+        few-conflicts = rw length-append (let l = leb-false 64 (length (g .lists .conflicts)) (p .room) in omega arith);
         roots-formed = w .roots-formed;
         few-roots = w .few-roots;
         nodes-in = w .nodes-in;
@@ -215,6 +225,8 @@ module _ (g : Reading) (w : Lawful g) where
         low = λ q. absurd (omega arith);
         causes-up = w .causes-up;
         conflicts-up = w .conflicts-up;
+        few-causes = w .few-causes;
+        few-conflicts = w .few-conflicts;
         roots-formed = λ q m. ⊎-elim (w .roots-formed q) (λ s. ap (λ (x : Root). wellFormed (x .path)) (List·Memᴰ·eq-of-singleton s) ∙ p .formed) (List·Memᴰ·append-cases (g .lists .roots) m);
         few-roots = rw length-append (let l = leb-false 16 (length (g .lists .roots)) (p .room) in omega arith);
         nodes-in = w .nodes-in;
@@ -232,6 +244,8 @@ module _ (g : Reading) (w : Lawful g) where
         low = λ q. absurd (omega arith);
         causes-up = w .causes-up;
         conflicts-up = w .conflicts-up;
+        few-causes = w .few-causes;
+        few-conflicts = w .few-conflicts;
         roots-formed = w .roots-formed;
         few-roots = w .few-roots;
         nodes-in = λ n l. ⊎-elim (newest n) (older n) (eq-or-lt-of-le (le-of-suc-le-suc (rw more at l)));

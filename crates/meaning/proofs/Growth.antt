@@ -32,6 +32,9 @@ some-pair-more p (c ∷ cs) a b = ap (λ (t : Bool). p (c .0) (c .1) || t) (some
 
 -- CAUSES
 
+pub kept-pair : (cs : List (ℕ × ℕ)) (a b p q : ℕ) → Listed cs p q → Listed (cs ++ ((a, b) ∷ [])) p q
+kept-pair cs a b p q m = Memᴰ·append-left ((a, b) ∷ []) m
+
 module _ (cs : List (ℕ × ℕ)) (a b n : ℕ) where
   abbrev more : List (ℕ × ℕ)
   more = cs ++ ((a, b) ∷ [])

@@ -11,7 +11,8 @@ use lib.ListN.{length, getD, take, drop, length-drop, length-take, List·getD-ma
 use lib.Seq.{getD-drop, drop-drop}
 use borrow.Author.Tests.{lt-ltb, le-ltb, le-leb, lt-leb, eq-eqb, ne-eqb, eqb-true, eqb-false}
 use Rattle.meaning.specs.Records.{marked, kindOf}
-use Rattle.records.specs.declared.Record.the-variants.{Whole, Broken, End}
+use Rattle.records.specs.declared.Record.the-variants.{Whole, Broken}
+use Rattle.records.specs.declared.Frame.{Frame}
 use Rattle.records.specs.Frames.{frameAt, recordAt}
 use Rattle.meaning.specs.Sheet.{Kind, NodeKind, kinds, kindAt, knownKind, nodeKinds, nodeKind, nodeFits, payload, whole, fits, framed}
 
@@ -155,17 +156,30 @@ module _ (s : List ℕ) (at : ℕ) where
 
 -- WHAT STANDS AT A PLACE
 
-pub ends : (s : List ℕ) (at : ℕ) → length s ≤ at → End ≡ recordAt s at
+pub breaks : (s : List ℕ) (at : ℕ) → framed (drop at s) ≡ false → Broken ≡ recordAt s at
 unfolding recordAt
-ends s at h = rw (le-leb (length s) at h)
+breaks s at e = rw e
 
-pub breaks : (s : List ℕ) (at : ℕ) → at < length s → framed (drop at s) ≡ false → Broken ≡ recordAt s at
+pub stands : (s : List ℕ) (at : ℕ) → framed (drop at s) ≡ true → Whole (frameAt s at) ≡ recordAt s at
 unfolding recordAt
-breaks s at h e = rw (lt-leb (length s) at h, e)
+stands s at e = rw e
 
-pub stands : (s : List ℕ) (at : ℕ) → at < length s → framed (drop at s) ≡ true → Whole (frameAt s at) ≡ recordAt s at
+-- and back
+pub broken-says : (s : List ℕ) (at : ℕ) → recordAt s at ≡ Broken → framed (drop at s) ≡ false
 unfolding recordAt
-stands s at h e = rw (lt-leb (length s) at h, e)
+broken-says s at e = go (framed (drop at s)) e
+  where
+    go : (t : Bool) → cond t (Whole (frameAt s at)) Broken ≡ Broken → t ≡ false
+    go true e = absurd (let z : _≡_ {A = ℕ} 0 1 = cc in omega arith)
+    go false e = refl
+
+pub whole-says : (s : List ℕ) (at : ℕ) (f : Frame) → recordAt s at ≡ Whole f → (framed (drop at s) ≡ true) × (f ≡ frameAt s at)
+unfolding recordAt
+whole-says s at f e = go (framed (drop at s)) e
+  where
+    go : (t : Bool) → cond t (Whole (frameAt s at)) Broken ≡ Whole f → (t ≡ true) × (f ≡ frameAt s at)
+    go true e = (refl, cc)
+    go false e = absurd (let z : _≡_ {A = ℕ} 0 1 = cc in omega arith)
 
 -- the frame, by the sheet's own bytes
 pub frame-bytes :

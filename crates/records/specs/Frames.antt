@@ -3,13 +3,12 @@
 use Prim.Native.Nat.{ℕ, _+_}
 use mathlib.Core.Bool.{cond}
 use mathlib.Core.List.{List}
-use lib.Dec.{leb}
-use lib.ListN.{length, getD, drop}
+use lib.ListN.{getD, drop}
 use Rattle.meaning.specs.Records.{kindOf}
 use Rattle.meaning.specs.Sheet.{framed}
 use Rattle.records.specs.declared.Frame.{Frame}
 use Rattle.records.specs.declared.Record.{Record}
-use Rattle.records.specs.declared.Record.the-variants.{Whole, Broken, End}
+use Rattle.records.specs.declared.Record.the-variants.{Whole, Broken}
 
 -- the record whose bytes begin at a place
 unfoldable pub frameAt : List ℕ → ℕ → Frame
@@ -18,4 +17,4 @@ frameAt s at =
     record { kind = kindOf r; start = at + 4; len = getD r 3 0; next = at + 4 + getD r 3 0 }
 
 unfoldable pub recordAt : List ℕ → ℕ → Record
-recordAt s at = cond (leb (length s) at) End (cond (framed (drop at s)) (Whole (frameAt s at)) Broken)
+recordAt s at = cond (framed (drop at s)) (Whole (frameAt s at)) Broken

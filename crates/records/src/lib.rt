@@ -1,5 +1,5 @@
 // Records of a sheet: the mark B4 4D, a kind byte, a payload length byte, the payload. What stands at a place of the sheet is a whole record of
-// a known kind, with a payload that fits it; or a broken one; or the sheet ends there.
+// a known kind, with a payload that fits it; or it is broken, as it is past the sheet's end.
 ghost use mathlib.Core.Path.{_≡_};
 ghost use mathlib.Core.Bool.{_&&_};
 ghost use Rattle.meaning.specs.Sheet.{nodeFits, knownKind, fits as fitsKind};
@@ -16,7 +16,6 @@ pub struct Frame {
 pub enum Record {
     Whole(Frame),
     Broken,
-    End,
 }
 
 // For kinds 1 to 5: the least and the greatest length of the payload.
@@ -69,7 +68,7 @@ pub fn step_at(s: &[u8], at: usize) -> Record
     ensures { λ r. ⌜ r ≡ recordAt (now (s .entry)) at ⌝ }
 {
     if s.len() <= at {
-        return Record::End;
+        return Record::Broken;
     }
     if s.len() - at < 4 {
         return Record::Broken;

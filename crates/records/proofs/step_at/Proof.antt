@@ -6,19 +6,19 @@ use native.Mathlib.Omega.{arith}
 use borrow.Author.Tests.{not-true, not-false}
 use Rattle.records.specs.declared.Record.the-variants.{Whole}
 use Rattle.records.specs.declared.Frame.{Frame}
-use Rattle.records.proofs.Framing.{broken-short, broken-cut, broken-mark, broken-second, framed-by, ends, breaks, stands, frame-bytes}
+use Rattle.records.proofs.Framing.{broken-short, broken-cut, broken-mark, broken-second, framed-by, breaks, stands, frame-bytes}
 use borrow.Author.Needs.{needs}
 use Rattle.records.proofs.step_at.Statement.{statement}
 use Rattle.records.proofs.step_at.Tie as tie
 
 returns : tie.Need-returns
-returns c = ends (c .before .before .args .s .now) (c .before .before .args .at) (c .if1 .taken)
+returns c = breaks (c .before .before .args .s .now) (c .before .before .args .at) (broken-short (c .before .before .args .s .now) (c .before .before .args .at) (omega arith))
 
 sub-if2 : tie.Need-sub-if2
 sub-if2 c = search needs
 
 returns-2 : tie.Need-returns-2
-returns-2 c = breaks (c .before .before .before .args .s .now) (c .before .before .before .args .at) (c .before .if1 .left) (broken-short (c .before .before .before .args .s .now) (c .before .before .before .args .at) (c .if2 .taken))
+returns-2 c = breaks (c .before .before .before .args .s .now) (c .before .before .before .args .at) (broken-short (c .before .before .before .args .s .now) (c .before .before .before .args .at) (c .if2 .taken))
 
 add-len : tie.Need-add-len
 add-len c = search needs
@@ -36,13 +36,13 @@ sub-if3 : tie.Need-sub-if3
 sub-if3 c = search needs
 
 returns-3 : tie.Need-returns-3
-returns-3 c = breaks (c .before .before .before .before .before .args .s .now) (c .before .before .before .before .before .args .at) (c .before .before .before .if1 .left) (broken-cut (c .before .before .before .before .before .args .s .now) (c .before .before .before .before .before .args .at) (c .before .before .if2 .left) (c .if3 .taken))
+returns-3 c = breaks (c .before .before .before .before .before .args .s .now) (c .before .before .before .before .before .args .at) (broken-cut (c .before .before .before .before .before .args .s .now) (c .before .before .before .before .before .args .at) (c .before .before .if2 .left) (c .if3 .taken))
 
 shared-slice-read-if4 : tie.Need-shared-slice-read-if4
 shared-slice-read-if4 c = search needs
 
 returns-4 : tie.Need-returns-4
-returns-4 c = breaks (c .before .before .before .before .before .before .before .args .s .now) (c .before .before .before .before .before .before .before .args .at) (c .before .before .before .before .before .if1 .left) (broken-mark (c .before .before .before .before .before .before .before .args .s .now) (c .before .before .before .before .before .before .before .args .at) (c .before .before .before .before .if2 .left) (c .before .before .if3 .left) (c .if4 .taken))
+returns-4 c = breaks (c .before .before .before .before .before .before .before .args .s .now) (c .before .before .before .before .before .before .before .args .at) (broken-mark (c .before .before .before .before .before .before .before .args .s .now) (c .before .before .before .before .before .before .before .args .at) (c .before .before .before .before .if2 .left) (c .before .before .if3 .left) (c .if4 .taken))
 
 add-if5 : tie.Need-add-if5
 add-if5 c = search needs
@@ -51,7 +51,7 @@ shared-slice-read-if5 : tie.Need-shared-slice-read-if5
 shared-slice-read-if5 c = search needs
 
 returns-5 : tie.Need-returns-5
-returns-5 c = breaks (c .before .before .before .before .before .before .before .before .before .args .s .now) (c .before .before .before .before .before .before .before .before .before .args .at) (c .before .before .before .before .before .before .before .if1 .left) (broken-second (c .before .before .before .before .before .before .before .before .before .args .s .now) (c .before .before .before .before .before .before .before .before .before .args .at) (c .before .before .before .before .before .before .if2 .left) (c .before .before .before .before .if3 .left) (c .before .before .if4 .left) (c .if5 .taken))
+returns-5 c = breaks (c .before .before .before .before .before .before .before .before .before .args .s .now) (c .before .before .before .before .before .before .before .before .before .args .at) (broken-second (c .before .before .before .before .before .before .before .before .before .args .s .now) (c .before .before .before .before .before .before .before .before .before .args .at) (c .before .before .before .before .before .before .if2 .left) (c .before .before .before .before .if3 .left) (c .before .before .if4 .left) (c .if5 .taken))
 
 add-kind : tie.Need-add-kind
 add-kind c = search needs
@@ -75,10 +75,10 @@ fits-requires : tie.Need-fits-requires
 fits-requires c κs = search needs
 
 returns-6 : tie.Need-returns-6
-returns-6 c = breaks (c .before .before .before .before .before .before .before .before .before .before .before .before .before .args .s .now) (c .before .before .before .before .before .before .before .before .before .before .before .before .before .args .at) (c .before .before .before .before .before .before .before .before .before .before .before .if1 .left) (framed-by (c .before .before .before .before .before .before .before .before .before .before .before .before .before .args .s .now) (c .before .before .before .before .before .before .before .before .before .before .before .before .before .args .at) (c .before .before .before .before .before .before .before .before .before .before .if2 .left) (c .before .before .before .before .before .before .before .before .if3 .left) (c .before .before .before .before .before .before .if4 .left) (c .before .before .before .before .if5 .left) (c .before .fits2 .result) (c .before .fits2 .ensures) ∙ not-true (c .before .fits2 .result) (c .if6 .taken))
+returns-6 c = breaks (c .before .before .before .before .before .before .before .before .before .before .before .before .before .args .s .now) (c .before .before .before .before .before .before .before .before .before .before .before .before .before .args .at) (framed-by (c .before .before .before .before .before .before .before .before .before .before .before .before .before .args .s .now) (c .before .before .before .before .before .before .before .before .before .before .before .before .before .args .at) (c .before .before .before .before .before .before .before .before .before .before .if2 .left) (c .before .before .before .before .before .before .before .before .if3 .left) (c .before .before .before .before .before .before .if4 .left) (c .before .before .before .before .if5 .left) (c .before .fits2 .result) (c .before .fits2 .ensures) ∙ not-true (c .before .fits2 .result) (c .if6 .taken))
 
 returns-7 : tie.Need-returns-7
-returns-7 c = sym (ap (λ (f : Frame). Whole f) (frame-bytes (c .before .before .before .before .before .before .before .before .before .before .before .before .before .args .s .now) (c .before .before .before .before .before .before .before .before .before .before .before .before .before .args .at))) ∙ stands (c .before .before .before .before .before .before .before .before .before .before .before .before .before .args .s .now) (c .before .before .before .before .before .before .before .before .before .before .before .before .before .args .at) (c .before .before .before .before .before .before .before .before .before .before .before .if1 .left) (framed-by (c .before .before .before .before .before .before .before .before .before .before .before .before .before .args .s .now) (c .before .before .before .before .before .before .before .before .before .before .before .before .before .args .at) (c .before .before .before .before .before .before .before .before .before .before .if2 .left) (c .before .before .before .before .before .before .before .before .if3 .left) (c .before .before .before .before .before .before .if4 .left) (c .before .before .before .before .if5 .left) (c .before .fits2 .result) (c .before .fits2 .ensures) ∙ not-false (c .before .fits2 .result) (c .if6 .left))
+returns-7 c = sym (ap (λ (f : Frame). Whole f) (frame-bytes (c .before .before .before .before .before .before .before .before .before .before .before .before .before .args .s .now) (c .before .before .before .before .before .before .before .before .before .before .before .before .before .args .at))) ∙ stands (c .before .before .before .before .before .before .before .before .before .before .before .before .before .args .s .now) (c .before .before .before .before .before .before .before .before .before .before .before .before .before .args .at) (framed-by (c .before .before .before .before .before .before .before .before .before .before .before .before .before .args .s .now) (c .before .before .before .before .before .before .before .before .before .before .before .before .before .args .at) (c .before .before .before .before .before .before .before .before .before .before .if2 .left) (c .before .before .before .before .before .before .before .before .if3 .left) (c .before .before .before .before .before .before .if4 .left) (c .before .before .before .before .if5 .left) (c .before .fits2 .result) (c .before .fits2 .ensures) ∙ not-false (c .before .fits2 .result) (c .if6 .left))
 
 pub step-at-spec : {M : Type 1} → statement M
 step-at-spec =

@@ -1,0 +1,5 @@
+pub mod Tables
+pub mod Growing
+pub mod Loading
+pub mod Putting
+pub mod Stepping

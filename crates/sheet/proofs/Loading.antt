@@ -1,0 +1,284 @@
+-- The loader's walk: what was kept and tallied stands for the lists so far, and what is left of the sheet decides the rest.
+-- Assumes nothing.
+use Prim.Native.Nat.{ℕ, zero, suc, _+_, _-_, _≤_, _<_}
+use mathlib.Core.Path.{_≡_, refl, sym, ap, ap₂, _∙_, subst}
+use mathlib.Core.Bool.{Bool, true, false, not, cond, _&&_, _||_}
+use mathlib.Core.List.{List, [], _∷_, _++_}
+use native.Mathlib.Nat.{add-zero}
+use native.Mathlib.Omega.{arith}
+use lib.Dec.{eqb, leb, ltb}
+use lib.ListN.{length, getD, take, drop, length-append, length-drop, drop-of-length-le}
+use lib.Seq.{drop-cons, drop-drop}
+use borrow.Author.Tests.{eq-eqb, ne-eqb, le-ltb, lt-ltb, leb-true, eqb-true}
+use Rattle.meaning.specs.Lists.{isEmpty}
+use Rattle.meaning.specs.Sets.{setOf}
+use Rattle.meaning.specs.Events.{neededBy, conflictingWith}
+use Rattle.meaning.specs.Refusals.{Answer, good, refused}
+use Rattle.meaning.specs.Records.{marked, kindOf}
+use Rattle.meaning.specs.Rules.{Node}
+use Rattle.meaning.specs.Sheet.{Item, Reading, nothingRead, kinds, kindAt, knownKind, nodeFits, payload, behind, whole, fits, framed, itemOf, itemAt, keyOf, kindNumber, noted, afterItem, tally, itemFault, fault, walk, withNodes, sheetOf}
+use Rattle.meaning.specs.Sheet
+use Rattle.meaning.proofs.Quantifiers.{and-left, and-right}
+use Rattle.meaning.proofs.Accepted.{Lawful, lawful-start, lawful-after}
+use Rattle.records.specs.declared.Frame.{Frame}
+use Rattle.records.specs.Frames.{frameAt}
+use Rattle.faults.specs.declared.Tally.{Tally}
+use Rattle.faults.specs.Tallies.{Inside, payloadIn, itemIn, tallied}
+use Rattle.faults.proofs.Order.{kind-number}
+use Rattle.sheet.specs.declared.Sheet.{Sheet}
+use Rattle.sheet.specs.declared.Loaded.{Loaded}
+use Rattle.sheet.specs.Loads.{tableOf, kindOfNode, leftOf, rightOf, nothing, stored, answered, putRecord, counted, noTally}
+use Rattle.sheet.proofs.Growing.{stored-after}
+
+-- A FRAMED RECORD: its frame, in the sheet, says what stands there
+
+module _ (s : List ℕ) (at : ℕ) (e : framed (drop at s) ≡ true) where
+  abbrev f : Frame
+  f = frameAt s at
+
+  abbrev r : List ℕ
+  r = drop at s
+
+  parts : (whole r ≡ true) × (knownKind (kindOf r) ≡ true) × (fits (kindOf r) (payload r) ≡ true)
+  unfolding framed
+  parts =
+      let a = and-left (whole r && marked r && knownKind (kindOf r)) (fits (kindOf r) (payload r)) e in
+      let b = and-left (whole r && marked r) (knownKind (kindOf r)) a in
+      (and-left (whole r) (marked r) b, and-right (whole r && marked r) (knownKind (kindOf r)) a, and-right (whole r && marked r && knownKind (kindOf r)) (fits (kindOf r) (payload r)) e)
+
+  room : (4 ≤ length r) × (4 + getD r 3 0 ≤ length r)
+  unfolding whole
+  room = (leb-true 4 (length r) (and-left (leb 4 (length r)) _ (parts .0)), leb-true (4 + getD r 3 0) (length r) (and-right (leb 4 (length r)) _ (parts .0)))
+
+  pub frame-at : at < length s
+  frame-at = let w = room in omega (arith, length-drop at s)
+
+  pub frame-known : (1 ≤ f .kind) × (f .kind ≤ 5)
+  unfolding frameAt knownKind kinds
+  frame-known = (leb-true 1 (kindOf r) (and-left (leb 1 (kindOf r)) _ (parts .1)), leb-true (kindOf r) 5 (and-right (leb 1 (kindOf r)) _ (parts .1)))
+
+  pub frame-inside : Inside s f
+  unfolding frameAt
+  frame-inside = let w = room in omega (arith, length-drop at s)
+
+  pub frame-next : (at < f .next) × (f .next ≤ length s)
+  unfolding frameAt
+  frame-next = let w = room in (omega arith, omega (arith, length-drop at s))
+
+  pub frame-payload : payloadIn s f ≡ payload r
+  unfolding frameAt payloadIn payload
+  frame-payload = ap (take (getD r 3 0)) (sym (drop-drop 4 at s))
+
+  pub frame-item : itemIn s f ≡ itemAt r
+  unfolding itemIn itemAt frameAt
+  frame-item = ap (itemOf (kindOf r)) frame-payload
+
+  pub frame-behind : drop (f .next) s ≡ behind r
+  unfolding frameAt behind
+  frame-behind = let w : at + (4 + getD r 3 0) ≡ at + 4 + getD r 3 0 = omega arith in sym (drop-drop (4 + getD r 3 0) at s ∙ ap (λ (n : ℕ). drop n s) w)
+
+  pub frame-node : f .kind ≡ 5 → nodeFits (payloadIn s f) ≡ true
+  unfolding frameAt fits
+  frame-node q =
+      rw frame-payload
+      (subst (λ (t : Bool). (not t || nodeFits (payload r)) ≡ true) (eq-eqb (kindOf r) 5 q)
+      (and-right (leb (kindAt (kindOf r) .least) (length (payload r)) && leb (length (payload r)) (kindAt (kindOf r) .greatest)) _ (parts .2)))
+
+-- WHAT STANDS FOR THE LISTS SO FAR
+
+pub record Stands (s : List ℕ) (x : Sheet) (t : Tally) (g : Reading) : Type 0 where
+  pub kept : x ≡ stored (g .lists)
+  pub tallies : tallied s t ≡ tally g
+  pub inside : Inside s (t .last)
+  pub lawful : Lawful g
+
+-- and for the rest of the sheet: the walk goes on from at, with steps enough
+pub record Walking (s : List ℕ) (x : Sheet) (t : Tally) (at : ℕ) : Type 0 where
+  pub reading : Reading
+  pub stands : Stands s x t reading
+  pub steps : ℕ
+  pub enough : length s - at ≤ steps
+  pub same : walk steps reading (drop at s) ≡ walk (length s) nothingRead s
+
+pub start : (s : List ℕ) → Walking s nothing noTally 0
+unfolding nothing stored nothingRead noTally tallied tally itemIn payloadIn itemOf keyOf tableOf neededBy conflictingWith setOf kindOfNode leftOf rightOf
+start s =
+    record {
+      reading = nothingRead;
+      stands = record { kept = refl; tallies = refl; inside = omega arith; lawful = lawful-start };
+      steps = length s;
+      enough = omega arith;
+      same = refl;
+    }
+
+walk-suc :
+    (m : ℕ) (g : Reading) (r : List ℕ) → 0 < length r
+    → walk (suc m) g r ≡ cond (eqb (fault g r) 0) (walk m (afterItem g (itemAt r)) (behind r)) (refused (fault g r))
+unfolding walk
+walk-suc m g [] l = absurd (omega arith)
+walk-suc m g (b ∷ r) l = refl
+
+walk-end : (n : ℕ) (g : Reading) → walk n g [] ≡ good (g .lists)
+unfolding walk
+walk-end zero g = refl
+walk-end (suc n) g = refl
+
+-- one record more of a kind is one more in its list
+module _ (s : Sheet.Sheet) where
+  more-causes : (i : Item) → length (s .causes) + cond (eqb (kindNumber i) 2) 1 0 ≡ length (noted s i .causes)
+  unfolding noted kindNumber
+  more-causes (Sheet.count n) = add-zero _
+  more-causes (Sheet.cause a b) = sym (length-append (s .causes) _)
+  more-causes (Sheet.conflict a b) = add-zero _
+  more-causes (Sheet.root r) = add-zero _
+  more-causes (Sheet.node v) = add-zero _
+
+  more-conflicts : (i : Item) → length (s .conflicts) + cond (eqb (kindNumber i) 3) 1 0 ≡ length (noted s i .conflicts)
+  unfolding noted kindNumber
+  more-conflicts (Sheet.count n) = add-zero _
+  more-conflicts (Sheet.cause a b) = add-zero _
+  more-conflicts (Sheet.conflict a b) = sym (length-append (s .conflicts) _)
+  more-conflicts (Sheet.root r) = add-zero _
+  more-conflicts (Sheet.node v) = add-zero _
+
+  more-roots : (i : Item) → length (s .roots) + cond (eqb (kindNumber i) 4) 1 0 ≡ length (noted s i .roots)
+  unfolding noted kindNumber
+  more-roots (Sheet.count n) = add-zero _
+  more-roots (Sheet.cause a b) = add-zero _
+  more-roots (Sheet.conflict a b) = add-zero _
+  more-roots (Sheet.root r) = sym (length-append (s .roots) _)
+  more-roots (Sheet.node v) = add-zero _
+
+module _ (s : List ℕ) (x : Sheet) (t : Tally) (at : ℕ) (w : Walking s x t at) where
+  abbrev g : Reading
+  g = w .reading
+
+  abbrev rest : List ℕ
+  rest = drop at s
+
+  left : at < length s → 0 < length rest
+  left l = rw length-drop (omega arith)
+
+  -- a faulty record ends the walk
+  pub ends-badly : (n : ℕ) → at < length s → fault g rest ≡ n → (n ≡ 0 → ⊥) → walk (length s) nothingRead s ≡ refused n
+  ends-badly n l e ne = sym (w .same) ∙ go (w .steps) (w .enough)
+    where
+      go : (k : ℕ) → length s - at ≤ k → walk k g rest ≡ refused n
+      go zero h = absurd (omega arith)
+      go (suc m) h = walk-suc m g rest (left l) ∙ rw (e, ne-eqb n 0 ne)
+
+  -- behind the last record nothing is left
+  pub ends-well : length s ≤ at → walk (length s) nothingRead s ≡ good (g .lists)
+  ends-well l = sym (w .same) ∙ ap (walk (w .steps) g) (drop-of-length-le s l) ∙ walk-end (w .steps) g
+
+  pub breaks-off : at < length s → framed rest ≡ false → walk (length s) nothingRead s ≡ refused 11
+  unfolding fault
+  breaks-off l e = ends-badly 11 l (rw e) (λ z. omega arith)
+
+  module _ (e : framed rest ≡ true) where
+    abbrev fr : Frame
+    fr = frameAt s at
+
+    -- what code tallied is what is asked
+    fault-is : (n : ℕ) → n ≡ itemFault (tallied s t) (itemIn s fr) → fault g rest ≡ n
+    unfolding fault
+    fault-is n q = rw e (sym (q ∙ ap₂ itemFault (w .stands .tallies) (frame-item s at e)))
+
+    pub fails : (n : ℕ) → n ≡ itemFault (tallied s t) (itemIn s fr) → (n ≡ 0 → ⊥) → walk (length s) nothingRead s ≡ refused n
+    fails n q ne = ends-badly n (frame-at s at e) (fault-is n q) ne
+
+    -- a record without fault is taken
+    module _ (z : 0 ≡ itemFault (tallied s t) (itemIn s fr)) where
+      abbrev y : Sheet
+      y = putRecord x (fr .kind) (payloadIn s fr)
+
+      abbrev i : Item
+      i = itemAt rest
+
+      pub passes-by : itemFault (tally g) i ≡ 0
+      passes-by = sym (z ∙ ap₂ itemFault (w .stands .tallies) (frame-item s at e))
+
+      grown : y ≡ stored (noted (g .lists) i)
+      unfolding itemIn
+      grown =
+          ap (λ (v : Sheet). putRecord v (fr .kind) (payloadIn s fr)) (w .stands .kept)
+          ∙ sym (stored-after g (w .stands .lawful) (fr .kind) (frame-known s at e .0) (frame-known s at e .1) (payloadIn s fr) (frame-node s at e) (ap (itemFault (tally g)) (frame-item s at e) ∙ passes-by))
+          ∙ ap (λ (j : Item). stored (noted (g .lists) j)) (frame-item s at e)
+
+      kind-is : fr .kind ≡ kindNumber i
+      unfolding itemIn
+      kind-is = sym (kind-number (fr .kind) (frame-known s at e .0) (frame-known s at e .1) (payloadIn s fr)) ∙ ap kindNumber (frame-item s at e)
+
+      tally-is : tallied s (counted t fr (y .events) (y .nodes)) ≡ tally (afterItem g i)
+      unfolding tallied counted tally afterItem stored
+      tally-is = λ j.
+          record {
+            kind = kind-is j;
+            key = keyOf (frame-item s at e j);
+            events = grown j .events;
+            causes = (ap₂ (λ (a k : ℕ). a + cond (eqb k 2) 1 0) (ap (λ (u : Sheet.Tally). u .causes) (w .stands .tallies)) kind-is ∙ more-causes (g .lists) i) j;
+            conflicts = (ap₂ (λ (a k : ℕ). a + cond (eqb k 3) 1 0) (ap (λ (u : Sheet.Tally). u .conflicts) (w .stands .tallies)) kind-is ∙ more-conflicts (g .lists) i) j;
+            roots = (ap₂ (λ (a k : ℕ). a + cond (eqb k 4) 1 0) (ap (λ (u : Sheet.Tally). u .roots) (w .stands .tallies)) kind-is ∙ more-roots (g .lists) i) j;
+            nodes = grown j .nodes;
+          }
+
+      pub goes-on : Walking s y (counted t fr (y .events) (y .nodes)) (fr .next)
+      unfolding counted afterItem
+      goes-on = go (w .steps) (w .enough) (w .same)
+        where
+          go : (k : ℕ) → length s - at ≤ k → walk k g rest ≡ walk (length s) nothingRead s → Walking s y (counted t fr (y .events) (y .nodes)) (fr .next)
+          go zero h q = absurd (let l = frame-at s at e in omega arith)
+          go (suc m) h q =
+              record {
+                reading = afterItem g i;
+                stands =
+                    record { kept = grown; tallies = tally-is; inside = frame-inside s at e; lawful = lawful-after g (w .stands .lawful) i passes-by };
+                steps = m;
+                enough = let l = frame-next s at e in omega arith;
+                same =
+                    ap (walk m (afterItem g i)) (frame-behind s at e)
+                    ∙ sym (walk-suc m g rest (left (frame-at s at e)) ∙ rw (fault-is 0 z))
+                    ∙ q;
+              }
+
+-- THE ANSWER
+
+module _ (s : List ℕ) (h : length s ≤ 4096) where
+  of-walk : sheetOf s ≡ withNodes (walk (length s) nothingRead s)
+  unfolding sheetOf
+  of-walk = rw (le-ltb 4096 (length s) h)
+
+  pub answers-refused : (n : ℕ) → walk (length s) nothingRead s ≡ refused n → answered (refused n) ≡ answered (sheetOf s)
+  unfolding withNodes
+  answers-refused n e = sym (ap answered (of-walk ∙ ap withNodes e))
+
+  module _ (x : Sheet) (t : Tally) (at : ℕ) (w : Walking s x t at) (l : length s ≤ at) where
+    nodes-of : x .nodes ≡ length (w .reading .lists .nodes)
+    unfolding stored
+    nodes-of = ap (λ (y : Sheet). y .nodes) (w .stands .kept)
+
+    empty-of : (b : Bool) → isEmpty (w .reading .lists .nodes) ≡ b → sheetOf s ≡ cond b (refused 16) (good (w .reading .lists))
+    unfolding withNodes
+    empty-of b e = of-walk ∙ ap withNodes (ends-well s x t at w l) ∙ ap (λ (c : Bool). cond c (refused 16) (good (w .reading .lists))) e
+
+    pub answers-no-node : x .nodes ≡ 0 → answered (refused 16) ≡ answered (sheetOf s)
+    unfolding isEmpty
+    answers-no-node e = sym (ap answered (empty-of true (none (w .reading .lists .nodes) (sym nodes-of ∙ e))))
+      where
+        none : (ns : List Node) → length ns ≡ 0 → isEmpty ns ≡ true
+        none [] e = refl
+        none (v ∷ ns) e = absurd (omega arith)
+
+    pub answers-sheet : (x .nodes ≡ 0 → ⊥) → _≡_ {A = Loaded} (record { number = 0; sheet = x }) (answered (sheetOf s))
+    unfolding isEmpty answered
+    answers-sheet ne =
+        ap (λ (y : Sheet). record { number = 0; sheet = y }) (w .stands .kept)
+        ∙ sym (ap answered (empty-of false (someone (w .reading .lists .nodes) (λ e. ne (nodes-of ∙ e)))))
+      where
+        someone : (ns : List Node) → (length ns ≡ 0 → ⊥) → isEmpty ns ≡ false
+        someone [] n = absurd (n refl)
+        someone (v ∷ ns) n = refl
+
+pub answers-long : (s : List ℕ) → 4096 < length s → answered (refused 10) ≡ answered (sheetOf s)
+unfolding sheetOf
+answers-long s h = ap answered (rw (lt-ltb 4096 (length s) h))
