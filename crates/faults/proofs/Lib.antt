@@ -1,3 +1,4 @@
 pub mod Order
 pub mod Range
 pub mod Judge
+pub mod Framed

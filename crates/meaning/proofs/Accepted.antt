@@ -275,6 +275,12 @@ pub no-fault : (g : Reading) (s : List ℕ) → fault g s ≡ 0 → (framed s �
 unfolding fault
 no-fault g s e = let w = passes (not (framed s)) 11 _ (λ z. omega arith) e in (not-false (framed s) (w .0), w .1)
 
+-- at the end of the bytes
+pub walk-end : (n : ℕ) (g : Reading) → walk n g [] ≡ good (g .lists)
+unfolding walk
+walk-end zero g = refl
+walk-end (suc n) g = refl
+
 -- one step of a walk that ends well
 pub walked :
     (n : ℕ) (g : Reading) (b : ℕ) (s : List ℕ) (sheet : Sheet)

@@ -19,70 +19,17 @@ use Rattle.meaning.specs.Rules.{Node}
 use Rattle.meaning.specs.Sheet.{Item, Reading, nothingRead, kinds, kindAt, knownKind, nodeFits, payload, behind, whole, fits, framed, itemOf, itemAt, keyOf, kindNumber, noted, afterItem, tally, itemFault, fault, walk, withNodes, sheetOf}
 use Rattle.meaning.specs.Sheet
 use Rattle.meaning.proofs.Quantifiers.{and-left, and-right}
-use Rattle.meaning.proofs.Accepted.{Lawful, lawful-start, lawful-after}
+use Rattle.meaning.proofs.Accepted.{Lawful, lawful-start, lawful-after, walk-end}
 use Rattle.records.specs.declared.Frame.{Frame}
 use Rattle.records.specs.Frames.{frameAt}
 use Rattle.faults.specs.declared.Tally.{Tally}
 use Rattle.faults.specs.Tallies.{Inside, payloadIn, itemIn, tallied}
 use Rattle.faults.proofs.Order.{kind-number}
+use Rattle.faults.proofs.Framed.{frame-at, frame-known, frame-inside, frame-next, frame-payload, frame-item, frame-behind, frame-node}
 use Rattle.sheet.specs.declared.Sheet.{Sheet}
 use Rattle.sheet.specs.declared.Loaded.{Loaded}
 use Rattle.sheet.specs.Loads.{tableOf, kindOfNode, leftOf, rightOf, nothing, stored, answered, putRecord, counted, noTally}
 use Rattle.sheet.proofs.Growing.{stored-after}
-
--- A FRAMED RECORD: its frame, in the sheet, says what stands there
-
-module _ (s : List ℕ) (at : ℕ) (e : framed (drop at s) ≡ true) where
-  abbrev f : Frame
-  f = frameAt s at
-
-  abbrev r : List ℕ
-  r = drop at s
-
-  parts : (whole r ≡ true) × (knownKind (kindOf r) ≡ true) × (fits (kindOf r) (payload r) ≡ true)
-  unfolding framed
-  parts =
-      let a = and-left (whole r && marked r && knownKind (kindOf r)) (fits (kindOf r) (payload r)) e in
-      let b = and-left (whole r && marked r) (knownKind (kindOf r)) a in
-      (and-left (whole r) (marked r) b, and-right (whole r && marked r) (knownKind (kindOf r)) a, and-right (whole r && marked r && knownKind (kindOf r)) (fits (kindOf r) (payload r)) e)
-
-  room : (4 ≤ length r) × (4 + getD r 3 0 ≤ length r)
-  unfolding whole
-  room = (leb-true 4 (length r) (and-left (leb 4 (length r)) _ (parts .0)), leb-true (4 + getD r 3 0) (length r) (and-right (leb 4 (length r)) _ (parts .0)))
-
-  pub frame-at : at < length s
-  frame-at = let w = room in omega (arith, length-drop at s)
-
-  pub frame-known : (1 ≤ f .kind) × (f .kind ≤ 5)
-  unfolding frameAt knownKind kinds
-  frame-known = (leb-true 1 (kindOf r) (and-left (leb 1 (kindOf r)) _ (parts .1)), leb-true (kindOf r) 5 (and-right (leb 1 (kindOf r)) _ (parts .1)))
-
-  pub frame-inside : Inside s f
-  unfolding frameAt
-  frame-inside = let w = room in omega (arith, length-drop at s)
-
-  pub frame-next : (at < f .next) × (f .next ≤ length s)
-  unfolding frameAt
-  frame-next = let w = room in (omega arith, omega (arith, length-drop at s))
-
-  pub frame-payload : payloadIn s f ≡ payload r
-  unfolding frameAt payloadIn payload
-  frame-payload = ap (take (getD r 3 0)) (sym (drop-drop 4 at s))
-
-  pub frame-item : itemIn s f ≡ itemAt r
-  unfolding itemIn itemAt frameAt
-  frame-item = ap (itemOf (kindOf r)) frame-payload
-
-  pub frame-behind : drop (f .next) s ≡ behind r
-  unfolding frameAt behind
-  frame-behind = let w : at + (4 + getD r 3 0) ≡ at + 4 + getD r 3 0 = omega arith in sym (drop-drop (4 + getD r 3 0) at s ∙ ap (λ (n : ℕ). drop n s) w)
-
-  pub frame-node : f .kind ≡ 5 → nodeFits (payloadIn s f) ≡ true
-  unfolding frameAt fits
-  frame-node q =
-      rw frame-payload
-      (subst (λ (t : Bool). (not t || nodeFits (payload r)) ≡ true) (eq-eqb (kindOf r) 5 q)
-      (and-right (leb (kindAt (kindOf r) .least) (length (payload r)) && leb (length (payload r)) (kindAt (kindOf r) .greatest)) _ (parts .2)))
 
 -- WHAT STANDS FOR THE LISTS SO FAR
 
@@ -117,11 +64,6 @@ walk-suc :
 unfolding walk
 walk-suc m g [] l = absurd (omega arith)
 walk-suc m g (b ∷ r) l = refl
-
-walk-end : (n : ℕ) (g : Reading) → walk n g [] ≡ good (g .lists)
-unfolding walk
-walk-end zero g = refl
-walk-end (suc n) g = refl
 
 -- one record more of a kind is one more in its list
 module _ (s : Sheet.Sheet) where

@@ -17,7 +17,8 @@ use Rattle.faults.specs.declared.Tally.{Tally}
 use Rattle.faults.specs.Tallies.{Inside, payloadIn, itemIn, tallied}
 use Rattle.sheet.specs.declared.Sheet.{Sheet}
 use Rattle.sheet.specs.Loads.{stored, putRecord, counted, Fitting}
-use Rattle.sheet.proofs.Loading.{Walking, frame-known, frame-inside, frame-next, frame-item, fails, passes-by, goes-on}
+use Rattle.faults.proofs.Framed.{frame-known, frame-inside, frame-next, frame-item}
+use Rattle.sheet.proofs.Loading.{Walking, fails, passes-by, goes-on}
 use Rattle.sheet.proofs.Putting.{fits-places}
 
 module _ (s : List ℕ) (x : Sheet) (t : Tally) (at : ℕ) (w : Walking s x t at) (f : Frame) (says : recordAt s at ≡ Whole f) where

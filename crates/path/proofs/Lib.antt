@@ -1,0 +1,3 @@
+pub mod Covering
+pub mod Searching
+pub mod Asking
