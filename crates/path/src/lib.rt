@@ -74,7 +74,7 @@ fn find(sheet: &[u8], access: u32, path: &[u8]) -> Span
     };
     let mut at = 0;
     'roots: while at < sheet.len() {
-        let Record::Whole(f) = records::step_at(sheet, at) else {
+        let Record::Whole(f) = records::read_at(sheet, at) else {
             break 'roots;
         };
         at = f.next;

@@ -5,6 +5,11 @@ ghost use mathlib.Core.Bool.{_&&_};
 ghost use Rattle.meaning.specs.Sheet.{nodeFits, knownKind, fits as fitsKind};
 ghost use Rattle.records.specs.Frames.{recordAt};
 
+mod reader;
+
+pub use reader::Reader;
+pub use reader::read_at;
+
 // A record's kind, where its payload starts and how long it is, and where the next record stands.
 pub struct Frame {
     pub kind: u8,

@@ -170,7 +170,7 @@ pub fn load(s: &[u8]) -> Loaded
     let mut t = no_tally();
     let mut at = 0;
     while at < s.len() {
-        let Record::Whole(f) = records::step_at(s, at) else {
+        let Record::Whole(f) = records::read_at(s, at) else {
             return refusal(11);
         };
         let n = faults::fault(s, t, f);

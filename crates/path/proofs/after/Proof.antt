@@ -7,22 +7,16 @@ use lib.Seq.{take-all}
 use borrow.Author.Needs.{needs}
 use Rattle.path.proofs.after.Statement.{statement}
 use Rattle.path.proofs.after.Tie as tie
-use Rattle.path.proofs.after.Reads as reads
-use Rattle.path.proofs.after.Lts as lts
 
--- src/lib.rt:166:5
 sub-result : tie.Need-sub-result
 sub-result c = search needs
 
--- src/lib.rt:166:5
 part-result-start : tie.Need-part-result-start
 part-result-start c = search needs
 
--- src/lib.rt:166:5
 part-result-end : tie.Need-part-result-end
 part-result-end c = search needs
 
--- src/lib.rt:162:1
 returns : tie.Need-returns
 returns c = let g = c .before .args in take-all (length (g .path .now) - g .n) (drop (g .n) (g .path .now)) (simp length-drop (omega arith))
 

@@ -5,18 +5,13 @@ use Rattle.path.proofs.Covering.{edge-more, edge-end}
 use borrow.Author.Needs.{needs}
 use Rattle.path.proofs.edge_at.Statement.{statement}
 use Rattle.path.proofs.edge_at.Tie as tie
-use Rattle.path.proofs.edge_at.Reads as reads
-use Rattle.path.proofs.edge_at.Lts as lts
 
--- src/lib.rt:59:16
 shared-slice-read-result : tie.Need-shared-slice-read-result
 shared-slice-read-result c = search needs
 
--- src/lib.rt:59:9
 returns : tie.Need-returns
 returns c = sym (edge-more (c .before .before .args .path .now) (c .before .before .args .n) (c .before .if1 .taken))
 
--- src/lib.rt:54:1
 returns-2 : tie.Need-returns-2
 returns-2 c = sym (edge-end (c .before .args .path .now) (c .before .args .n) (c .if1 .left))
 

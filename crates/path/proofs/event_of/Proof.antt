@@ -5,27 +5,19 @@ use Rattle.path.proofs.Asking.{event-under, event-refused}
 use borrow.Author.Needs.{needs}
 use Rattle.path.proofs.event_of.Statement.{statement}
 use Rattle.path.proofs.event_of.Tie as tie
-use Rattle.path.proofs.event_of.Reads as reads
-use Rattle.path.proofs.event_of.Lts as lts
-use Rattle.path.proofs.judge.Reads as judge-reads
 
--- src/lib.rt:137:11
 judge-requires : tie.Need-judge-requires
 judge-requires c κs = search needs
 
--- src/lib.rt:138:22
 enum-known-b : tie.Need-enum-known-b
 enum-known-b c = search needs
 
--- src/lib.rt:142:24
 enum-known-n : tie.Need-enum-known-n
 enum-known-n c = search needs
 
--- src/lib.rt:134:1
 returns : tie.Need-returns
 returns c = event-under (c .before .before .before .before .before .before .args .sheet .now) (c .before .before .before .before .before .before .args .access) (c .before .before .before .before .before .before .args .path .now) (c .before .before .before .judge .result) (c .before .before .before .judge .ensures) (c .before .b .given .0 .0) (c .before .b .given .1)
 
--- src/lib.rt:134:1
 returns-2 : tie.Need-returns-2
 returns-2 c = event-refused (c .before .before .before .before .before .before .args .sheet .now) (c .before .before .before .before .before .before .args .access) (c .before .before .before .before .before .before .args .path .now) (c .before .before .before .judge .result) (c .before .before .before .judge .ensures) (c .before .n .given .0 .0) (c .before .n .given .1)
 

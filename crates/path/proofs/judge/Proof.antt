@@ -6,49 +6,34 @@ use Rattle.path.proofs.Asking.{sheet-refused, sheet-good, asks-access, 
 use borrow.Author.Needs.{needs}
 use Rattle.path.proofs.judge.Statement.{statement}
 use Rattle.path.proofs.judge.Tie as tie
-use Rattle.path.proofs.judge.Reads as reads
-use Rattle.path.proofs.judge.Lts as lts
-use Rattle.form.proofs.well_formed.Reads as well-formed-reads
-use Rattle.path.proofs.find.Reads as find-reads
-use Rattle.sheet.proofs.load.Reads as load-reads
 
--- src/lib.rt:110:18
 load-requires : tie.Need-load-requires
 load-requires c κs = search needs
 
--- src/lib.rt:112:9
 returns : tie.Need-returns
 returns c = sheet-refused (c .before .before .before .before .args .sheet .now) (c .before .before .before .before .args .access) (c .before .before .before .before .args .path .now) (c .before .load .result) (c .before .load .ensures) (c .if1 .taken)
 
--- src/lib.rt:115:9
 returns-2 : tie.Need-returns-2
 returns-2 c = asks-access (c .before .before .before .before .before .args .sheet .now) (c .before .before .before .before .before .args .access) (c .before .before .before .before .before .args .path .now) (sheet-good (c .before .before .before .before .before .args .sheet .now) (c .before .before .before .before .before .args .access) (c .before .before .before .before .before .args .path .now) (c .before .before .load .result) (c .before .before .load .ensures) (c .before .if1 .left)) (c .if2 .taken)
 
--- src/lib.rt:118:9
 returns-3 : tie.Need-returns-3
 returns-3 c = asks-empty (c .before .before .before .before .before .before .args .sheet .now) (c .before .before .before .before .before .before .args .access) (c .before .before .before .before .before .before .args .path .now) (sheet-good (c .before .before .before .before .before .before .args .sheet .now) (c .before .before .before .before .before .before .args .access) (c .before .before .before .before .before .before .args .path .now) (c .before .before .before .load .result) (c .before .before .before .load .ensures) (c .before .before .if1 .left)) (c .before .if2 .left) (c .if3 .taken)
 
--- src/lib.rt:121:9
 returns-4 : tie.Need-returns-4
 returns-4 c = asks-long (c .before .before .before .before .before .before .before .args .sheet .now) (c .before .before .before .before .before .before .before .args .access) (c .before .before .before .before .before .before .before .args .path .now) (sheet-good (c .before .before .before .before .before .before .before .args .sheet .now) (c .before .before .before .before .before .before .before .args .access) (c .before .before .before .before .before .before .before .args .path .now) (c .before .before .before .before .load .result) (c .before .before .before .before .load .ensures) (c .before .before .before .if1 .left)) (c .before .before .if2 .left) (c .before .if3 .left) (c .if4 .taken)
 
--- src/lib.rt:123:9
 well-formed-requires : tie.Need-well-formed-requires
 well-formed-requires c κs = search needs
 
--- src/lib.rt:124:9
 returns-5 : tie.Need-returns-5
 returns-5 c = asks-form (c .before .before .before .before .before .before .before .before .before .args .sheet .now) (c .before .before .before .before .before .before .before .before .before .args .access) (c .before .before .before .before .before .before .before .before .before .args .path .now) (sheet-good (c .before .before .before .before .before .before .before .before .before .args .sheet .now) (c .before .before .before .before .before .before .before .before .before .args .access) (c .before .before .before .before .before .before .before .before .before .args .path .now) (c .before .before .before .before .before .before .load .result) (c .before .before .before .before .before .before .load .ensures) (c .before .before .before .before .before .if1 .left)) (c .before .before .before .before .if2 .left) (c .before .before .before .if3 .left) (c .before .before .if4 .left) (sym (c .before .well-formed .ensures) ∙ not-true (c .before .well-formed .result) (c .if5 .taken))
 
--- src/lib.rt:126:9
 find-requires : tie.Need-find-requires
 find-requires c κs = (sheet-good (c .before .before .before .before .before .before .before .before .before .args .sheet .now) (c .before .before .before .before .before .before .before .before .before .args .access) (c .before .before .before .before .before .before .before .before .before .args .path .now) (c .before .before .before .before .before .before .load .result) (c .before .before .before .before .before .before .load .ensures) (c .before .before .before .before .before .if1 .left))
 
--- src/lib.rt:128:9
 returns-6 : tie.Need-returns-6
 returns-6 c = asks-nowhere (c .before .before .before .before .before .before .before .before .before .before .before .before .args .sheet .now) (c .before .before .before .before .before .before .before .before .before .before .before .before .args .access) (c .before .before .before .before .before .before .before .before .before .before .before .before .args .path .now) (sheet-good (c .before .before .before .before .before .before .before .before .before .before .before .before .args .sheet .now) (c .before .before .before .before .before .before .before .before .before .before .before .before .args .access) (c .before .before .before .before .before .before .before .before .before .before .before .before .args .path .now) (c .before .before .before .before .before .before .before .before .before .load .result) (c .before .before .before .before .before .before .before .before .before .load .ensures) (c .before .before .before .before .before .before .before .before .if1 .left)) (c .before .before .before .before .before .before .before .if2 .left) (c .before .before .before .before .before .before .if3 .left) (c .before .before .before .before .before .if4 .left) (sym (c .before .before .before .before .well-formed .ensures) ∙ not-false (c .before .before .before .before .well-formed .result) (c .before .before .before .if5 .left)) (c .before .before .find .result) (c .before .before .find .ensures) (c .if6 .taken)
 
--- src/lib.rt:107:1
 returns-7 : tie.Need-returns-7
 returns-7 c = asks-under (c .before .before .before .before .before .before .before .before .before .before .before .before .args .sheet .now) (c .before .before .before .before .before .before .before .before .before .before .before .before .args .access) (c .before .before .before .before .before .before .before .before .before .before .before .before .args .path .now) (sheet-good (c .before .before .before .before .before .before .before .before .before .before .before .before .args .sheet .now) (c .before .before .before .before .before .before .before .before .before .before .before .before .args .access) (c .before .before .before .before .before .before .before .before .before .before .before .before .args .path .now) (c .before .before .before .before .before .before .before .before .before .load .result) (c .before .before .before .before .before .before .before .before .before .load .ensures) (c .before .before .before .before .before .before .before .before .if1 .left)) (c .before .before .before .before .before .before .before .if2 .left) (c .before .before .before .before .before .before .if3 .left) (c .before .before .before .before .before .if4 .left) (sym (c .before .before .before .before .well-formed .ensures) ∙ not-false (c .before .before .before .before .well-formed .result) (c .before .before .before .if5 .left)) (c .before .before .find .result) (c .before .before .find .ensures) (c .if6 .left)
 

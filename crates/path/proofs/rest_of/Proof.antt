@@ -6,44 +6,31 @@ use mathlib.Core.Path.{_∙_}
 use borrow.Author.Needs.{needs}
 use Rattle.path.proofs.rest_of.Statement.{statement}
 use Rattle.path.proofs.rest_of.Tie as tie
-use Rattle.path.proofs.rest_of.Reads as reads
-use Rattle.path.proofs.rest_of.Lts as lts
-use Rattle.path.proofs.after.Reads as after-reads
-use Rattle.path.proofs.judge.Reads as judge-reads
 
--- src/lib.rt:173:27
 judge-requires : tie.Need-judge-requires
 judge-requires c κs = search needs
 
--- src/lib.rt:173:22
 enum-known-b : tie.Need-enum-known-b
 enum-known-b c = search needs
 
--- src/lib.rt:174:16
 enum-told : tie.Need-enum-told
 enum-told c = search needs
 
--- src/lib.rt:174:16
 sub-result : tie.Need-sub-result
 sub-result c = search needs
 
--- src/lib.rt:174:16
 part-result-start : tie.Need-part-result-start
 part-result-start c = search needs
 
--- src/lib.rt:174:16
 part-result-end : tie.Need-part-result-end
 part-result-end c = search needs
 
--- src/lib.rt:174:9
 returns : tie.Need-returns
 returns c = rest-refused (c .before .before .before .before .before .before .args .sheet .now) (c .before .before .before .before .before .before .args .access) (c .before .before .before .before .before .before .args .path .now) (c .before .before .before .judge .result) (c .before .before .before .judge .ensures) _ (c .before .enum-told .given .1)
 
--- src/lib.rt:177:5
 after-requires : tie.Need-after-requires
 after-requires c κs = let w = c .before .before .before .judge .ensures .spans (c .before .b .given .0 .0) (c .before .b .given .1) in w .1
 
--- src/lib.rt:170:1
 returns-2 : tie.Need-returns-2
 returns-2 c = c .after .ensures ∙ rest-under (c .before .before .before .before .before .before .before .args .sheet .now) (c .before .before .before .before .before .before .before .args .access) (c .before .before .before .before .before .before .before .args .path .now) (c .before .before .before .before .judge .result) (c .before .before .before .before .judge .ensures) (c .before .before .b .given .0 .0) (c .before .before .b .given .1)
 

@@ -8,33 +8,24 @@ use Rattle.path.specs.Search.{worthIt}
 use borrow.Author.Needs.{needs}
 use Rattle.path.proofs.worth.Statement.{statement}
 use Rattle.path.proofs.worth.Tie as tie
-use Rattle.path.proofs.worth.Reads as reads
-use Rattle.path.proofs.worth.Lts as lts
-use Rattle.path.proofs.wide.Reads as wide-reads
 
--- src/lib.rt:43:9
 returns : tie.Need-returns
 unfolding worthIt
 returns c = rw (ne-eqb (c .before .before .before .args .f .kind) 4 (c .if1 .taken))
 
--- src/lib.rt:46:13
 sub-m : tie.Need-sub-m
 sub-m c = let h = c .before .before .before .before .pre .1 (c .before .if1 .left) in omega arith
 
--- src/lib.rt:47:13
 shared-slice-read-wide : tie.Need-shared-slice-read-wide
 shared-slice-read-wide c = let h = c .before .before .before .before .before .pre .1 (c .before .before .if1 .left) in let k = c .before .before .before .before .before .pre .0 in omega arith
 
--- src/lib.rt:47:8
 wide-requires : tie.Need-wide-requires
 wide-requires c κs = search needs
 
--- src/lib.rt:48:9
 returns-2 : tie.Need-returns-2
 unfolding worthIt
 returns-2 c = rw (eq-eqb (c .before .before .before .before .before .before .before .args .f .kind) 4 (c .before .before .before .before .if1 .left), ne-eqb (getD (c .before .before .before .before .before .before .before .args .sheet .now) (c .before .before .before .before .before .before .before .args .f .start) 0) (c .before .before .before .before .before .before .before .args .access) (λ e. c .if2 .taken (c .before .wide .ensures ∙ e)))
 
--- src/lib.rt:37:1
 returns-3 : tie.Need-returns-3
 unfolding worthIt
 returns-3 c = rw (eq-eqb (c .before .before .before .before .before .before .before .args .f .kind) 4 (c .before .before .before .before .if1 .left), eq-eqb (getD (c .before .before .before .before .before .before .before .args .sheet .now) (c .before .before .before .before .before .before .before .args .f .start) 0) (c .before .before .before .before .before .before .before .args .access) (sym (c .before .wide .ensures) ∙ c .if2 .left))
