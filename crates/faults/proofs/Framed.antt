@@ -11,7 +11,7 @@ use lib.Seq.{drop-drop}
 use borrow.Author.Tests.{eq-eqb, leb-true}
 use Rattle.meaning.specs.Records.{marked, kindOf}
 use Rattle.meaning.specs.Sheet.{kinds, kindAt, knownKind, nodeFits, payload, behind, whole, fits, framed, itemOf, itemAt}
-use Rattle.meaning.proofs.Quantifiers.{and-left, and-right}
+use Rattle.laws.proofs.Quantifiers.{and-left, and-right}
 use Rattle.records.specs.declared.Frame.{Frame}
 use Rattle.records.specs.Frames.{frameAt}
 use Rattle.faults.specs.Tallies.{Inside, payloadIn, itemIn}

@@ -12,3 +12,4 @@ pub mod Question
 pub mod History
 pub mod Image
 pub mod Worked
+pub mod Readings

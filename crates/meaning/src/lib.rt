@@ -1,1 +1,1 @@
-// The written meaning has definitions and laws only: see specs/ and proofs/.
+// The written meaning has definitions only: see specs/.

@@ -15,8 +15,8 @@ use Rattle.meaning.specs.Refusals.{Answer, good, refused}
 use Rattle.meaning.specs.Sheet.{Root, Item, count, cause, conflict, root, node, Reading, nothingRead, framed, behind, payload, itemOf, itemAt, noted, afterItem, fault, walk, sheetOf}
 use Rattle.meaning.specs.Sheet
 use Rattle.meaning.specs.Question.{Match, under, nowhere, longer, better, longest}
-use Rattle.meaning.proofs.Quantifiers.{and-left, and-right, and-both}
-use Rattle.meaning.proofs.Accepted.{walked, walk-end, no-fault, accepted-walk}
+use Rattle.laws.proofs.Quantifiers.{and-left, and-right, and-both}
+use Rattle.laws.proofs.Accepted.{walked, walk-end, no-fault, accepted-walk}
 use Rattle.records.specs.declared.Frame.{Frame}
 use Rattle.records.specs.declared.Record.the-variants.{Whole}
 use Rattle.records.specs.Frames.{frameAt, recordAt}

@@ -18,11 +18,11 @@ use Rattle.meaning.specs.Rules.{Node}
 use Rattle.meaning.specs.Events.{somePair, chain, neededBy, conflictingWith}
 use Rattle.meaning.specs.Sheet.{Item, count, cause, conflict, root, node, nodeKinds, nodeKind, nodeFits, nodeOf, itemOf, Reading, nothingRead, noted, afterItem, tally, pairInRange, inRange, kindNumber, keyOf, itemFault}
 use Rattle.meaning.specs.Sheet
-use Rattle.meaning.proofs.Quantifiers.{and-left, and-right}
-use Rattle.meaning.proofs.SetLaws.{setOf-ext}
-use Rattle.meaning.proofs.Growth.{kept-pair, needed-here, needed-other, conflict-low, conflict-high, conflict-other}
-use Rattle.meaning.proofs.Chains.{Listed}
-use Rattle.meaning.proofs.Accepted.{passed, Lawful, lawful-after, first-only}
+use Rattle.laws.proofs.Quantifiers.{and-left, and-right}
+use Rattle.laws.proofs.SetLaws.{setOf-ext}
+use Rattle.laws.proofs.Growth.{kept-pair, needed-here, needed-other, conflict-low, conflict-high, conflict-other}
+use Rattle.laws.proofs.Chains.{Listed}
+use Rattle.laws.proofs.Accepted.{passed, Lawful, lawful-after, first-only}
 use Rattle.sheet.specs.declared.Sheet.{Sheet}
 use Rattle.sheet.specs.Loads.{tableOf, kindOfNode, leftOf, rightOf, stored, putCount, putCause, putConflict, putNode, putRecord}
 use Rattle.sheet.proofs.Tables.{table-at, table-ext, table-set}

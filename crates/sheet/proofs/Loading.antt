@@ -18,8 +18,8 @@ use Rattle.meaning.specs.Records.{marked, kindOf}
 use Rattle.meaning.specs.Rules.{Node}
 use Rattle.meaning.specs.Sheet.{Item, Reading, nothingRead, kinds, kindAt, knownKind, nodeFits, payload, behind, whole, fits, framed, itemOf, itemAt, keyOf, kindNumber, noted, afterItem, tally, itemFault, fault, walk, withNodes, sheetOf}
 use Rattle.meaning.specs.Sheet
-use Rattle.meaning.proofs.Quantifiers.{and-left, and-right}
-use Rattle.meaning.proofs.Accepted.{Lawful, lawful-start, lawful-after, walk-end}
+use Rattle.laws.proofs.Quantifiers.{and-left, and-right}
+use Rattle.laws.proofs.Accepted.{Lawful, lawful-start, lawful-after, walk-end}
 use Rattle.records.specs.declared.Frame.{Frame}
 use Rattle.records.specs.Frames.{frameAt}
 use Rattle.faults.specs.declared.Tally.{Tally}

@@ -9,8 +9,8 @@ use lib.Dec.{ltb}
 use lib.ListN.{length, getD}
 use borrow.Author.Tests.{ltb-true, leb-false}
 use Rattle.meaning.specs.Sheet.{Item, count, cause, conflict, root, node, itemOf, Reading, kinds, kindAt, kindNumber, tally, soFar, pairInRange, inRange, itemFault}
-use Rattle.meaning.proofs.Quantifiers.{and-left, and-right}
-use Rattle.meaning.proofs.Accepted.{passed, Lawful}
+use Rattle.laws.proofs.Quantifiers.{and-left, and-right}
+use Rattle.laws.proofs.Accepted.{passed, Lawful}
 use Rattle.sheet.specs.declared.Sheet.{Sheet}
 use Rattle.sheet.specs.Loads.{Fitting, putCount, putCause, putConflict, putNode, putRecord}
 

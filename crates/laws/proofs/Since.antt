@@ -7,8 +7,8 @@ use mathlib.Core.Logic.{_↔_, ⊎-elim}
 use native.Mathlib.Omega.{arith}
 use lib.Dec.{leb}
 use borrow.Author.Tests.{le-leb, lt-leb, leb-true, leb-false}
 use Rattle.meaning.specs.Sets.{some, every, someTo, everyTo}
-use Rattle.meaning.proofs.Quantifiers.{or-cases, or-left, or-right, or-comm, and-left, and-right, and-both, and-true, some-none, some-here, some-where, every-each, every-if, some-ext}
+use Rattle.laws.proofs.Quantifiers.{or-cases, or-left, or-right, or-comm, and-left, and-right, and-both, and-true, some-none, some-here, some-where, every-each, every-if, some-ext}
 
 -- where b holds at the sessions of q, and a at those of p
 module _ (p q : ℕ → Bool) where

@@ -13,14 +13,14 @@ use lib.Dec.{ltb, leb·suc-suc}
 use lib.ListN.{length, getD, take, length-append, List·getD-append}
 use lib.Seq.{getD-at, take-suc}
 use borrow.Author.Tests.{lt-ltb, ltb-true}
 use Rattle.meaning.specs.Sets.{some, mem, setOf}
 use Rattle.meaning.specs.Rules.{Node, Rules, nodeInRange, inOrder}
 use Rattle.meaning.specs.Policy.{Formula, session, holds, formulaOf, formulas, nodeHolds, row}
 use Rattle.meaning.specs.Policy
 use Rattle.meaning.specs.Steps.{nodeBit, rowTo, nextRow, rowAfter}
-use Rattle.meaning.proofs.Quantifiers.{and-left, and-right, every-each}
-use Rattle.meaning.proofs.SetLaws.{mem-zero, mem-setOf}
-use Rattle.meaning.proofs.Since.{since-step}
+use Rattle.laws.proofs.Quantifiers.{and-left, and-right, every-each}
+use Rattle.laws.proofs.SetLaws.{mem-zero, mem-setOf}
+use Rattle.laws.proofs.Since.{since-step}
 
 module _ (r : Rules) where
   -- THE FORMULAS: a later node changes none before it

@@ -11,11 +11,11 @@ use lib.Dec.{eqb}
 use lib.Pow.{pow-lt}
 use lib.Bits.{bitOr, or-lt}
 use borrow.Author.Tests.{eqb-true, eq-eqb, ne-eqb}
 use Rattle.meaning.specs.Sets.{mem, setOf}
 use Rattle.meaning.specs.Events.{somePair, chain, neededBy, conflictingWith}
-use Rattle.meaning.proofs.Quantifiers.{or-cases, or-left, or-right, and-true}
-use Rattle.meaning.proofs.SetLaws.{mem-setOf, setOf-lt, setOf-ext, set-ext, same-test, mem-or, mem-one}
-use Rattle.meaning.proofs.Chains.{Listed, Chain, link, then, Upward, chain-sound, chain-complete, chain-ends}
+use Rattle.laws.proofs.Quantifiers.{or-cases, or-left, or-right, and-true}
+use Rattle.laws.proofs.SetLaws.{mem-setOf, setOf-lt, setOf-ext, set-ext, same-test, mem-or, mem-one}
+use Rattle.laws.proofs.Chains.{Listed, Chain, link, then, Upward, chain-sound, chain-complete, chain-ends}
 
 pub some-pair-more : (p : ℕ → ℕ → Bool) (cs : List (ℕ × ℕ)) (a b : ℕ) → somePair (cs ++ ((a, b) ∷ [])) p ≡ (somePair cs p || p a b)
 unfolding somePair

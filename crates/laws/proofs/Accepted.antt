@@ -13,13 +13,13 @@ use lib.Dec.{eqb, leb, ltb}
 use lib.ListN.{length, getD, length-append, List·getD-append}
 use lib.Seq.{getD-at}
 use borrow.Author.Tests.{leb-true, leb-false, ltb-true, ltb-false, eqb-true, eqb-false, eq-eqb, not-true, not-false}
 use Rattle.meaning.specs.Lists.{isEmpty}
 use Rattle.meaning.specs.Rules.{Node, Rules, nodeInRange, inOrder}
 use Rattle.meaning.specs.Path.{wellFormed}
 use Rattle.meaning.specs.Refusals.{Answer, good, refused}
 use Rattle.meaning.specs.Sheet.{Root, Sheet, Item, count, cause, conflict, root, node, kinds, kindAt, kindNumber, Reading, nothingRead, keyOf, noted, afterItem, Tally, tally, ascends, disordered, soFar, knownAccess, pairInRange, inRange, rootFormed, itemFault, itemAt, fault, walk, withNodes, sheetOf, rulesOf, framed, behind}
-use Rattle.meaning.proofs.Quantifiers.{or-cases, or-false, and-left, and-right, and-both, every-if}
-use Rattle.meaning.proofs.Chains.{Listed, Upward}
+use Rattle.laws.proofs.Quantifiers.{or-cases, or-false, and-left, and-right, and-both, every-if}
+use Rattle.laws.proofs.Chains.{Listed, Upward}
 
 -- A line that did not apply, and those behind it.
 pub passes : (b : Bool) (n m : ℕ) → (n ≡ 0 → ⊥) → cond b n m ≡ 0 → (b ≡ false) × (m ≡ 0)

@@ -5,3 +5,4 @@ pub mod Rows
 pub mod Chains
 pub mod Growth
 pub mod Accepted
+pub mod Under

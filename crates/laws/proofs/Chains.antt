@@ -9,10 +9,10 @@ use native.Mathlib.Nat.{not-suc-le-zero}
 use native.Mathlib.Omega.{arith}
 use lib.Dec.{eqb}
 use borrow.Author.Tests.{eqb-true, eq-eqb}
 use Rattle.meaning.specs.Sets.{mem, setOf}
 use Rattle.meaning.specs.Events.{somePair, chain, neededBy}
-use Rattle.meaning.proofs.Quantifiers.{or-cases, or-left, or-right, and-left, and-right, and-both}
-use Rattle.meaning.proofs.SetLaws.{mem-setOf, mem-of}
+use Rattle.laws.proofs.Quantifiers.{or-cases, or-left, or-right, and-left, and-right, and-both}
+use Rattle.laws.proofs.SetLaws.{mem-setOf, mem-of}
 
 -- (a, b) is in the list
 abbrev pub Listed : List (ℕ × ℕ) → ℕ → ℕ → Type 0
