@@ -8,7 +8,7 @@ ghost use Rattle.faults.specs.Tallies.{Inside, payloadIn, itemIn, tallie
 use records::Frame;
 
 pub mod keys;
-mod ranges;
+pub mod ranges;
 
 // What of the records before a record decides on it: the last of them (of kind 0 where there is none), the number of events, and how many
 // of each other kind there were.

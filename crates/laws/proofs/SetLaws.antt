@@ -134,3 +134,15 @@ mem-one i a = same-test (mem i (2 ^ a)) (eqb i a) (λ e. go e (ltb i a) refl (lt
     go e true l d m = absurd (false≢true (sym (below (ltb-true i a l)) ∙ e))
     go e false l true m = absurd (false≢true (sym (mem-beyond (suc a) i (2 ^ a) (pow-lt (omega arith)) (ltb-true a i m)) ∙ e))
     go e false l false m = let p = ltb-false i a l in let q = ltb-false a i m in eq-eqb i a (omega arith)
+
+-- a set whose members are below e is below 2 ^ e
+pub setOf-bound : (n e : ℕ) (p : ℕ → Bool) → ((i : ℕ) → i < n → p i ≡ true → i < e) → setOf n p < 2 ^ e
+unfolding setOf
+setOf-bound zero e p h = pow-pos e
+setOf-bound (suc n) e p h = go (p n) refl (setOf-bound n e p (λ i l t. h i (omega arith) t))
+  where
+    go : (b : Bool) → p n ≡ b → setOf n p < 2 ^ e → setOf n p + cond b (2 ^ n) 0 < 2 ^ e
+    go true q ih =
+        let l : suc n ≤ e = h n (omega arith) q in
+        lt-of-lt-of-le (grown-lt n (setOf n p) (setOf-lt n p) true) (pow-mono l)
+    go false q ih = rw add-zero ih

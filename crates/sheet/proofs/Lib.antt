@@ -3,3 +3,4 @@ pub mod Growing
 pub mod Loading
 pub mod Putting
 pub mod Stepping
+pub mod Sounds

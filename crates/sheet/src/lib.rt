@@ -11,6 +11,8 @@ use faults::keys;
 use records::Frame;
 use records::Record;
 
+mod soundness;
+
 // What the monitor needs of a sheet, and no more.
 pub struct Sheet {
     pub events: usize,
