@@ -83,7 +83,7 @@ loop-again : tie.Need-loop-again Inv-loop μ-loop Inv-roots μ-roots
 loop-again c = (omega arith, below-more _ _ (c .before .before .before .before .loop .inv .1) (c .if2 .left))
 
 edge-at-requires : tie.Need-edge-at-requires Inv-loop μ-loop Inv-roots μ-roots
-edge-at-requires c κs = no-longer (c .before .before .before .before .before .before .before .before .before .before .before .before .before .before .args .sheet .now) (c .before .before .before .before .before .before .before .before .before .before .before .before .before .before .args .access) (c .before .before .before .before .before .before .before .before .before .before .before .before .before .before .args .path .now) (c .before .before .before .before .before .before .before .before .before .before .before .roots .best) (c .before .before .before .before .before .before .before .before .before .before .before .roots .at) (c .before .before .before .before .before .before .before .before .before .before .before .roots .inv .1) (c .before .before .before .before .before .before .before .f .given .0 .0) (sym (c .before .before .before .before .before .before .before .before .before .read-at .ensures) ∙ c .before .before .before .before .before .before .before .f .given .1) (c .before .before .before .before .before .before .before .before .before .before .roots-test .taken) (sym (c .before .before .before .before .before .worth .ensures) ∙ not-false (c .before .before .before .before .before .worth .result) (c .before .before .before .before .if1 .left))
+edge-at-requires c κs = let k = no-longer (c .before .before .before .before .before .before .before .before .before .before .before .before .before .before .args .sheet .now) (c .before .before .before .before .before .before .before .before .before .before .before .before .before .before .args .access) (c .before .before .before .before .before .before .before .before .before .before .before .before .before .before .args .path .now) (c .before .before .before .before .before .before .before .before .before .before .before .roots .best) (c .before .before .before .before .before .before .before .before .before .before .before .roots .at) (c .before .before .before .before .before .before .before .before .before .before .before .roots .inv .1) (c .before .before .before .before .before .before .before .f .given .0 .0) (sym (c .before .before .before .before .before .before .before .before .before .read-at .ensures) ∙ c .before .before .before .before .before .before .before .f .given .1) (c .before .before .before .before .before .before .before .before .before .before .roots-test .taken) (sym (c .before .before .before .before .before .worth .ensures) ∙ not-false (c .before .before .before .before .before .worth .result) (c .before .before .before .before .if1 .left)) in omega arith
 
 shared-slice-read-t24 : tie.Need-shared-slice-read-t24 Inv-loop μ-loop Inv-roots μ-roots
 shared-slice-read-t24 c = let k = m-inside (c .before .before .before .before .before .before .before .before .before .before .before .before .before .before .before .before .before .args .sheet .now) (c .before .before .before .before .before .before .before .before .before .before .before .before .before .before .before .before .before .args .access) (c .before .before .before .before .before .before .before .before .before .before .before .before .before .before .before .before .before .args .path .now) (c .before .before .before .before .before .before .before .before .before .before .before .before .before .before .roots .best) (c .before .before .before .before .before .before .before .before .before .before .before .before .before .before .roots .at) (c .before .before .before .before .before .before .before .before .before .before .before .before .before .before .roots .inv .1) (c .before .before .before .before .before .before .before .before .before .before .f .given .0 .0) (sym (c .before .before .before .before .before .before .before .before .before .before .before .before .read-at .ensures) ∙ c .before .before .before .before .before .before .before .before .before .before .f .given .1) (is-root (c .before .before .before .before .before .before .before .before .before .before .before .before .before .before .before .before .before .args .sheet .now) (c .before .before .before .before .before .before .before .before .before .before .before .before .before .before .before .before .before .args .access) (c .before .before .before .before .before .before .before .before .before .before .before .before .before .before .before .before .before .args .path .now) (c .before .before .before .before .before .before .before .before .before .before .before .before .before .before .roots .best) (c .before .before .before .before .before .before .before .before .before .before .before .before .before .before .roots .at) (c .before .before .before .before .before .before .before .before .before .before .before .before .before .before .roots .inv .1) (c .before .before .before .before .before .before .before .before .before .before .f .given .0 .0) (sym (c .before .before .before .before .before .before .before .before .before .before .before .before .read-at .ensures) ∙ c .before .before .before .before .before .before .before .before .before .before .f .given .1) (c .before .before .before .before .before .before .before .before .before .before .before .before .before .roots-test .taken) (sym (c .before .before .before .before .before .before .before .before .worth .ensures) ∙ not-false (c .before .before .before .before .before .before .before .before .worth .result) (c .before .before .before .before .before .before .before .if1 .left))) in let r = f-root (c .before .before .before .before .before .before .before .before .before .before .before .before .before .before .before .before .before .args .sheet .now) (c .before .before .before .before .before .before .before .before .before .before .before .before .before .before .before .before .before .args .access) (c .before .before .before .before .before .before .before .before .before .before .before .before .before .before .before .before .before .args .path .now) (c .before .before .before .before .before .before .before .before .before .before .before .before .before .before .roots .best) (c .before .before .before .before .before .before .before .before .before .before .before .before .before .before .roots .at) (c .before .before .before .before .before .before .before .before .before .before .before .before .before .before .roots .inv .1) (c .before .before .before .before .before .before .before .before .before .before .f .given .0 .0) (sym (c .before .before .before .before .before .before .before .before .before .before .before .before .read-at .ensures) ∙ c .before .before .before .before .before .before .before .before .before .before .f .given .1) in omega arith
