@@ -146,3 +146,9 @@ setOf-bound (suc n) e p h = go (p n) refl (setOf-bound n e p (λ i l t. h i (ome
         let l : suc n ≤ e = h n (omega arith) q in
         lt-of-lt-of-le (grown-lt n (setOf n p) (setOf-lt n p) true) (pow-mono l)
     go false q ih = rw add-zero ih
+
+-- SETS IN 32 BITS
+
+-- a bit shifted into 32 bits
+pub one-shl : (a : ℕ) → a < 32 → 1 * 2 ^ a % 2 ^ 32 ≡ 2 ^ a
+one-shl a h = ap (λ (x : ℕ). x % 2 ^ 32) (one-mul (2 ^ a)) ∙ mod-eq-of-lt (pow-lt h)

@@ -1,7 +1,8 @@
 -- Numbers as sets, and what may be asked of them. Bit e of a number says whether e is in it: so are sets of events written, and rows of truths.
 -- Assumes nothing.
-use Prim.Native.Nat.{ℕ, zero, suc, _+_, _*_, _/_, _%_, _^_}
+use Prim.Native.Nat.{ℕ, zero, suc, _+_, _/_, _%_, _^_}
 use mathlib.Core.Bool.{Bool, true, false, not, cond, _&&_, _||_}
+use lib.Bits.{bitOr}
 use lib.Dec.{eqb}
 
 -- p holds of some number below n; of every number below n
@@ -31,7 +32,7 @@ setOf (suc n) p = setOf n p + cond (p n) (2 ^ n) 0
 
 -- x, and e too
 unfoldable pub added : ℕ → ℕ → ℕ
-added e x = cond (mem e x) x (x + 2 ^ e)
+added e x = bitOr x (2 ^ e)
 
 -- of the numbers below n: each that is in x is in y; none is in both
 unfoldable pub within : ℕ → ℕ → ℕ → Bool

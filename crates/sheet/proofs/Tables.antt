@@ -15,10 +15,6 @@ use lib.Seq.{getD-at, getD-set-same, getD-set-other, ext-getD}
 use borrow.Author.Tests.{eqb-true, eqb-false}
 use Rattle.sheet.specs.Loads.{tableOf}
 
--- a bit shifted into 32 bits
-pub one-shl : (a : ℕ) → a < 32 → 1 * 2 ^ a % 2 ^ 32 ≡ 2 ^ a
-one-shl a h = ap (λ (x : ℕ). x % 2 ^ 32) (one-mul (2 ^ a)) ∙ mod-eq-of-lt (pow-lt h)
-
 pub one-shl-wide : (n : ℕ) → n ≤ 32 → 1 * 2 ^ n % 2 ^ 64 ≡ 2 ^ n
 one-shl-wide n h = ap (λ (x : ℕ). x % 2 ^ 64) (one-mul (2 ^ n)) ∙ mod-eq-of-lt (pow-lt (let l : n < 64 = omega arith in l))
 

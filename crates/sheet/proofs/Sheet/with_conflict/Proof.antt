@@ -1,7 +1,7 @@
 -- `sheet::Sheet::with_conflict` meets its contract.
 -- Assumes nothing.
 use mathlib.Core.Path.{refl}
-use Rattle.sheet.proofs.Tables.{one-shl}
+use Rattle.laws.proofs.SetLaws.{one-shl}
 use Rattle.sheet.specs.Loads.{putConflict}
 use borrow.Author.Needs.{needs}
 use Rattle.sheet.proofs.Sheet.with_conflict.Statement.{statement}

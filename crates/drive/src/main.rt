@@ -1,0 +1,4 @@
+// Any script of commands on standard input.
+fn main() {
+    commands::serve();
+}
