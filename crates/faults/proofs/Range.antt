@@ -7,23 +7,8 @@ use mathlib.Core.List.{List}
 use native.Mathlib.Omega.{arith}
 use lib.Dec.{leb, ltb}
 use lib.ListN.{getD}
-use Rattle.meaning.specs.Rules.{Node, nodeInRange}
-use Rattle.meaning.specs.Sheet.{nodeKinds, nodeKind, nodeOf, itemOf, knownAccess, pairInRange, inRange}
-
-pub node-else :
-    (k a b : ℕ)
-    → (k ≡ 1 → ⊥) → (k ≡ 2 → ⊥) → (k ≡ 3 → ⊥) → (k ≡ 4 → ⊥) → (k ≡ 5 → ⊥) → (k ≡ 6 → ⊥) → (k ≡ 7 → ⊥)
-    → nodeOf k a b ≡ Node.always
-unfolding nodeOf nodeKind nodeKinds
-node-else zero a b n₁ n₂ n₃ n₄ n₅ n₆ n₇ = refl
-node-else (suc zero) a b n₁ n₂ n₃ n₄ n₅ n₆ n₇ = absurd (n₁ refl)
-node-else (suc (suc zero)) a b n₁ n₂ n₃ n₄ n₅ n₆ n₇ = absurd (n₂ refl)
-node-else (suc (suc (suc zero))) a b n₁ n₂ n₃ n₄ n₅ n₆ n₇ = absurd (n₃ refl)
-node-else (suc (suc (suc (suc zero)))) a b n₁ n₂ n₃ n₄ n₅ n₆ n₇ = absurd (n₄ refl)
-node-else (suc (suc (suc (suc (suc zero))))) a b n₁ n₂ n₃ n₄ n₅ n₆ n₇ = absurd (n₅ refl)
-node-else (suc (suc (suc (suc (suc (suc zero)))))) a b n₁ n₂ n₃ n₄ n₅ n₆ n₇ = absurd (n₆ refl)
-node-else (suc (suc (suc (suc (suc (suc (suc zero))))))) a b n₁ n₂ n₃ n₄ n₅ n₆ n₇ = absurd (n₇ refl)
-node-else (suc (suc (suc (suc (suc (suc (suc (suc k)))))))) a b n₁ n₂ n₃ n₄ n₅ n₆ n₇ = refl
+use Rattle.meaning.specs.Rules.{nodeInRange}
+use Rattle.meaning.specs.Sheet.{nodeOf, itemOf, knownAccess, pairInRange, inRange}
 
 module _ (events earlier : ℕ) (p : List ℕ) where
   pub range-count : (k : ℕ) → k ≡ 1 → inRange events earlier (itemOf k p) ≡ (leb 1 (getD p 0 0) && leb (getD p 0 0) 32)

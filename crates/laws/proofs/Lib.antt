@@ -6,3 +6,4 @@ pub mod Chains
 pub mod Growth
 pub mod Accepted
 pub mod Under
+pub mod Nodes

@@ -3,7 +3,7 @@
 use mathlib.Core.Path.{_≡_, sym, ap, _∙_}
 use Rattle.meaning.specs.Rules.{nodeInRange}
 use Rattle.meaning.specs.Sheet.{nodeOf, nodeKind, nodeKinds}
-use Rattle.faults.proofs.Range.{node-else}
+use Rattle.laws.proofs.Nodes.{node-else}
 use borrow.Author.Needs.{needs}
 use Rattle.faults.proofs.ranges.node_ok.Statement.{statement}
 use Rattle.faults.proofs.ranges.node_ok.Tie as tie
