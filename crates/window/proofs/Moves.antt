@@ -86,3 +86,16 @@ moving-more k i l h m =
     ∙ ap (λ (x : ℕ). take i (drop k l) ++ x ∷ replicate (64 - (i + 1)) 0) (sym (getD-drop k l i 0))
     ∙ sym (append-snoc (take i (drop k l)) (getD (drop k l) i 0) (replicate (64 - (i + 1)) 0))
     ∙ ap (λ (xs : List ℕ). xs ++ replicate (64 - (i + 1)) 0) (sym (take-suc (drop k l) i 0 inside) ∙ ap (λ (n : ℕ). take n (drop k l)) (sym (add-one i)))
+
+-- no more are let go than there are
+front-le : (r : Rules) (l : List ℕ) → letGo r l ≤ length l
+unfolding letGo
+front-le r [] = omega arith
+front-le r (x ∷ l) = go (closed r x) (front-le r l)
+  where
+    go : (b : Bool) → letGo r l ≤ length l → cond b (suc (letGo r l)) 0 ≤ suc (length l)
+    go true h = omega arith
+    go false h = omega arith
+
+pub run-le : (r : Rules) (sets : List ℕ) (kept : ℕ) → letGo r (take kept sets) ≤ kept
+run-le r sets kept = let a = front-le r (take kept sets) in let b = length-take kept sets in omega arith
