@@ -135,14 +135,16 @@ impl Monitor {
             };
         }
         let total = self.total;
-        if 4294967295 <= total {
+        let last = 4294967295 <= total;
+        let full = Self::KEPT <= self.kept;
+        if last {
             return Begun {
                 monitor: self,
                 number: 28,
                 session: 0,
             };
         }
-        if Self::KEPT <= self.kept {
+        if full {
             return Begun {
                 monitor: self,
                 number: 27,
@@ -181,16 +183,20 @@ impl Monitor {
     {
         let s = self.sheet;
         let n = s.events;
-        if window::is_closed(s, x) {
+        let shut = window::is_closed(s, x);
+        let there = events::has(x, e);
+        let clash = !events::apart(n, s.conflicts[e], x);
+        let lacks = !events::within(n, s.needs[e], x);
+        if shut {
             return 23;
         }
-        if events::has(x, e) {
+        if there {
             return 24;
         }
-        if !events::apart(n, s.conflicts[e], x) {
+        if clash {
             return 25;
         }
-        if !events::within(n, s.needs[e], x) {
+        if lacks {
             return 26;
         }
         0

@@ -3,11 +3,11 @@
 use Prim.Native.Nat.{_+_, _-_, _≤_, _<_}
 use mathlib.Core.Path.{_≡_, refl, sym, ap, _∙_}
 use mathlib.Core.Bool.{true, false}
+use lib.Dec.{leb}
 use native.Mathlib.Omega.{arith}
-use borrow.Author.Tests.{le-leb, lt-leb, eq-eqb, ne-eqb}
 use Rattle.monitor.proofs.States.{fit-of, fit-opened}
 use Rattle.monitor.specs.Calls.{bad, beginOf}
-use Rattle.monitor.specs.Calls.{Fit}
+use borrow.Author.Tests.{leb-false}
 use borrow.Author.Needs.{needs}
 use Rattle.monitor.proofs.Monitor.begin.Statement.{statement}
 use Rattle.monitor.proofs.Monitor.begin.Tie as tie
@@ -21,24 +21,24 @@ returns c = let q : bad (c .before .before .args .self) ≡ true = sym (c .befor
 
 returns-2 : tie.Need-returns-2
 unfolding beginOf
-returns-2 c = let q : bad (c .before .before .before .args .self) ≡ false = sym (c .before .before .is-bad .ensures) ∙ c .before .if1 .left in rw (q, le-leb 4294967295 (c .before .before .before .args .self .total) (c .if2 .taken))
+returns-2 c = let q : bad (c .before .before .before .before .args .self) ≡ false = sym (c .before .before .before .is-bad .ensures) ∙ c .before .before .if1 .left in let t : leb 4294967295 (c .before .before .before .before .args .self .total) ≡ true = c .if2 .taken in rw (q, t)
 
 returns-3 : tie.Need-returns-3
 unfolding beginOf
-returns-3 c = let q : bad (c .before .before .before .before .before .args .self) ≡ false = sym (c .before .before .before .before .is-bad .ensures) ∙ c .before .before .before .if1 .left in rw (q, lt-leb 4294967295 (c .before .before .before .before .before .args .self .total) (c .before .before .if2 .left), le-leb 64 (c .before .before .before .before .before .args .self .kept) (c .if3 .taken))
+returns-3 c = let q : bad (c .before .before .before .before .before .args .self) ≡ false = sym (c .before .before .before .before .is-bad .ensures) ∙ c .before .before .before .if1 .left in let t : leb 4294967295 (c .before .before .before .before .before .args .self .total) ≡ false = c .before .if2 .left in let u : leb 64 (c .before .before .before .before .before .args .self .kept) ≡ true = c .if3 .taken in rw (q, t, u)
 
 opened-requires : tie.Need-opened-requires
-opened-requires c κs = let q : bad (c .before .before .before .before .before .args .self) ≡ false = sym (c .before .before .before .before .is-bad .ensures) ∙ c .before .before .before .if1 .left in (fit-of (c .before .before .before .before .before .args .self) q, c .if3 .left, c .before .before .if2 .left)
+opened-requires c κs = let q : bad (c .before .before .before .before .before .args .self) ≡ false = sym (c .before .before .before .before .is-bad .ensures) ∙ c .before .before .before .if1 .left in (fit-of (c .before .before .before .before .before .args .self) q, leb-false 64 (c .before .before .before .before .before .args .self .kept) (c .if3 .left), leb-false 4294967295 (c .before .before .before .before .before .args .self .total) (c .before .if2 .left))
 
 settled-requires : tie.Need-settled-requires
-settled-requires c κs = let q : bad (c .before .before .before .before .before .before .args .self) ≡ false = sym (c .before .before .before .before .before .is-bad .ensures) ∙ c .before .before .before .before .if1 .left in rw (c .opened .ensures) (fit-opened (c .before .before .before .before .before .before .args .self) (fit-of (c .before .before .before .before .before .before .args .self) q) (c .before .if3 .left))
+settled-requires c κs = let q : bad (c .before .before .before .before .before .before .args .self) ≡ false = sym (c .before .before .before .before .before .is-bad .ensures) ∙ c .before .before .before .before .if1 .left in rw (c .opened .ensures) (fit-opened (c .before .before .before .before .before .before .args .self) (fit-of (c .before .before .before .before .before .before .args .self) q) (leb-false 64 (c .before .before .before .before .before .before .args .self .kept) (c .before .if3 .left)))
 
-add-t6 : tie.Need-add-t6
-add-t6 c = search needs
+add-t8 : tie.Need-add-t8
+add-t8 c = let l = leb-false 4294967295 (c .before .before .before .before .before .before .before .args .self .total) (c .before .before .before .if2 .left) in omega arith
 
 returns-4 : tie.Need-returns-4
 unfolding beginOf
-returns-4 c = let q : bad (c .before .before .before .before .before .before .before .args .self) ≡ false = sym (c .before .before .before .before .before .before .is-bad .ensures) ∙ c .before .before .before .before .before .if1 .left in rw (q, lt-leb 4294967295 (c .before .before .before .before .before .before .before .args .self .total) (c .before .before .before .before .if2 .left), lt-leb 64 (c .before .before .before .before .before .before .before .args .self .kept) (c .before .before .if3 .left), c .settled .ensures, c .before .opened .ensures)
+returns-4 c = let q : bad (c .before .before .before .before .before .before .before .args .self) ≡ false = sym (c .before .before .before .before .before .before .is-bad .ensures) ∙ c .before .before .before .before .before .if1 .left in let t : leb 4294967295 (c .before .before .before .before .before .before .before .args .self .total) ≡ false = c .before .before .before .if2 .left in let u : leb 64 (c .before .before .before .before .before .before .before .args .self .kept) ≡ false = c .before .before .if3 .left in rw (q, t, u, c .settled .ensures, c .before .opened .ensures)
 
 pub begin-spec : {M : Type 1} → statement M
 begin-spec =
@@ -50,5 +50,5 @@ begin-spec =
     returns-3
     opened-requires
     settled-requires
-    add-t6
+    add-t8
     returns-4)

@@ -1,17 +1,15 @@
 -- `monitor::Monitor::fault_at` meets its contract.
 -- Assumes nothing.
-use Prim.Native.Nat.{ℕ, _+_, _-_, _≤_, _<_}
+use Prim.Native.Nat.{_+_, _-_, _≤_, _<_}
 use mathlib.Core.Path.{_≡_, refl, sym, ap, _∙_}
-use mathlib.Core.Bool.{true, false}
+use mathlib.Core.Bool.{true, false, not}
 use native.Mathlib.Omega.{arith}
-use borrow.Author.Tests.{le-leb, lt-leb, lt-ltb, le-ltb, eq-eqb, ne-eqb, not-true, not-false}
-use Rattle.monitor.proofs.States.{fit-of, fit-written, Places, places, possible-in, supported-in}
-use Rattle.meaning.specs.Sets.{mem, apart, within}
+use Rattle.monitor.proofs.States.{possible-in, supported-in}
+use Rattle.meaning.specs.Sets.{mem}
 use Rattle.meaning.specs.Events.{closed, possible, supported}
 use Rattle.sheet.specs.Sound.{rulesIn}
 use Rattle.rows.proofs.Arms.{few-events}
 use Rattle.monitor.specs.Calls.{faultAt}
-use lib.ListN.{getD}
 use borrow.Author.Needs.{needs}
 use Rattle.monitor.proofs.Monitor.fault_at.Statement.{statement}
 use Rattle.monitor.proofs.Monitor.fault_at.Tie as tie
@@ -19,61 +17,61 @@ use Rattle.monitor.proofs.Monitor.fault_at.Tie as tie
 is-closed-requires : tie.Need-is-closed-requires
 is-closed-requires c κs = c .before .pre .0 .sounds
 
+has-requires : tie.Need-has-requires
+has-requires c κs = let h = few-events (c .before .before .args .self .sheet) (c .before .before .pre .0 .sounds) in let k = c .before .before .pre .1 in omega arith
+
+mul-apart : tie.Need-mul-apart
+mul-apart c = let h = few-events (c .before .before .before .args .self .sheet) (c .before .before .before .pre .0 .sounds) in let k = c .before .before .before .pre .1 in omega arith
+
+element-copy-out-apart : tie.Need-element-copy-out-apart
+element-copy-out-apart c = let h = few-events (c .before .before .before .args .self .sheet) (c .before .before .before .pre .0 .sounds) in let k = c .before .before .before .pre .1 in omega arith
+
+apart-requires : tie.Need-apart-requires
+apart-requires c κs = few-events (c .before .before .before .before .args .self .sheet) (c .before .before .before .before .pre .0 .sounds)
+
+mul-within : tie.Need-mul-within
+mul-within c = let h = few-events (c .before .before .before .before .before .args .self .sheet) (c .before .before .before .before .before .pre .0 .sounds) in let k = c .before .before .before .before .before .pre .1 in omega arith
+
+element-copy-out-within : tie.Need-element-copy-out-within
+element-copy-out-within c = let h = few-events (c .before .before .before .before .before .args .self .sheet) (c .before .before .before .before .before .pre .0 .sounds) in let k = c .before .before .before .before .before .pre .1 in omega arith
+
+within-requires : tie.Need-within-requires
+within-requires c κs = few-events (c .before .before .before .before .before .before .args .self .sheet) (c .before .before .before .before .before .before .pre .0 .sounds)
+
 returns : tie.Need-returns
 unfolding faultAt
-returns c = let q : closed (rulesIn (c .before .before .before .args .self .sheet)) (c .before .before .before .args .x) ≡ true = sym (c .before .is-closed .ensures) ∙ c .if1 .taken in rw q
-
-has-requires : tie.Need-has-requires
-has-requires c κs = let h = few-events (c .before .before .before .args .self .sheet) (c .before .before .before .pre .0 .sounds) in let k = c .before .before .before .pre .1 in omega arith
+returns c = let q : closed (rulesIn (c .before .before .before .before .before .before .before .before .args .self .sheet)) (c .before .before .before .before .before .before .before .before .args .x) ≡ true = sym (c .before .before .before .before .before .before .is-closed .ensures) ∙ c .if1 .taken in rw q
 
 returns-2 : tie.Need-returns-2
 unfolding faultAt
-returns-2 c = let q : closed (rulesIn (c .before .before .before .before .before .args .self .sheet)) (c .before .before .before .before .before .args .x) ≡ false = sym (c .before .before .before .is-closed .ensures) ∙ c .before .before .if1 .left in let p : mem (c .before .before .before .before .before .args .e) (c .before .before .before .before .before .args .x) ≡ true = sym (c .before .has .ensures) ∙ c .if2 .taken in rw (q, p)
-
-mul-apart : tie.Need-mul-apart
-mul-apart c = let h = few-events (c .before .before .before .before .before .args .self .sheet) (c .before .before .before .before .before .pre .0 .sounds) in let k = c .before .before .before .before .before .pre .1 in omega arith
-
-element-copy-out-apart : tie.Need-element-copy-out-apart
-element-copy-out-apart c = let h = few-events (c .before .before .before .before .before .args .self .sheet) (c .before .before .before .before .before .pre .0 .sounds) in let k = c .before .before .before .before .before .pre .1 in omega arith
-
-apart-requires : tie.Need-apart-requires
-apart-requires c κs = few-events (c .before .before .before .before .before .before .args .self .sheet) (c .before .before .before .before .before .before .pre .0 .sounds)
+returns-2 c = let q : closed (rulesIn (c .before .before .before .before .before .before .before .before .before .args .self .sheet)) (c .before .before .before .before .before .before .before .before .before .args .x) ≡ false = sym (c .before .before .before .before .before .before .before .is-closed .ensures) ∙ c .before .if1 .left in let p : mem (c .before .before .before .before .before .before .before .before .before .args .e) (c .before .before .before .before .before .before .before .before .before .args .x) ≡ true = sym (c .before .before .before .before .before .before .has .ensures) ∙ c .if2 .taken in rw (q, p)
 
 returns-3 : tie.Need-returns-3
 unfolding faultAt
-returns-3 c = let q : closed (rulesIn (c .before .before .before .before .before .before .before .before .args .self .sheet)) (c .before .before .before .before .before .before .before .before .args .x) ≡ false = sym (c .before .before .before .before .before .before .is-closed .ensures) ∙ c .before .before .before .before .before .if1 .left in let p : mem (c .before .before .before .before .before .before .before .before .args .e) (c .before .before .before .before .before .before .before .before .args .x) ≡ false = sym (c .before .before .before .before .has .ensures) ∙ c .before .before .before .if2 .left in let d : possible (rulesIn (c .before .before .before .before .before .before .before .before .args .self .sheet)) (c .before .before .before .before .before .before .before .before .args .e) (c .before .before .before .before .before .before .before .before .args .x) ≡ false = possible-in (c .before .before .before .before .before .before .before .before .args .self .sheet) (c .before .before .before .before .before .before .before .before .args .e) (c .before .before .before .before .before .before .before .before .args .x) ∙ sym (c .before .apart .ensures) ∙ not-true (c .before .apart .result) (c .if3 .taken) in rw (q, p, d)
-
-mul-within : tie.Need-mul-within
-mul-within c = let h = few-events (c .before .before .before .before .before .before .before .before .args .self .sheet) (c .before .before .before .before .before .before .before .before .pre .0 .sounds) in let k = c .before .before .before .before .before .before .before .before .pre .1 in omega arith
-
-element-copy-out-within : tie.Need-element-copy-out-within
-element-copy-out-within c = let h = few-events (c .before .before .before .before .before .before .before .before .args .self .sheet) (c .before .before .before .before .before .before .before .before .pre .0 .sounds) in let k = c .before .before .before .before .before .before .before .before .pre .1 in omega arith
-
-within-requires : tie.Need-within-requires
-within-requires c κs = few-events (c .before .before .before .before .before .before .before .before .before .args .self .sheet) (c .before .before .before .before .before .before .before .before .before .pre .0 .sounds)
+returns-3 c = let q : closed (rulesIn (c .before .before .before .before .before .before .before .before .before .before .args .self .sheet)) (c .before .before .before .before .before .before .before .before .before .before .args .x) ≡ false = sym (c .before .before .before .before .before .before .before .before .is-closed .ensures) ∙ c .before .before .if1 .left in let p : mem (c .before .before .before .before .before .before .before .before .before .before .args .e) (c .before .before .before .before .before .before .before .before .before .before .args .x) ≡ false = sym (c .before .before .before .before .before .before .before .has .ensures) ∙ c .before .if2 .left in let d : not (possible (rulesIn (c .before .before .before .before .before .before .before .before .before .before .args .self .sheet)) (c .before .before .before .before .before .before .before .before .before .before .args .e) (c .before .before .before .before .before .before .before .before .before .before .args .x)) ≡ true = ap not (possible-in (c .before .before .before .before .before .before .before .before .before .before .args .self .sheet) (c .before .before .before .before .before .before .before .before .before .before .args .e) (c .before .before .before .before .before .before .before .before .before .before .args .x) ∙ sym (c .before .before .before .before .before .apart .ensures)) ∙ c .if3 .taken in rw (q, p, d)
 
 returns-4 : tie.Need-returns-4
 unfolding faultAt
-returns-4 c = let q : closed (rulesIn (c .before .before .before .before .before .before .before .before .before .before .before .args .self .sheet)) (c .before .before .before .before .before .before .before .before .before .before .before .args .x) ≡ false = sym (c .before .before .before .before .before .before .before .before .before .is-closed .ensures) ∙ c .before .before .before .before .before .before .before .before .if1 .left in let p : mem (c .before .before .before .before .before .before .before .before .before .before .before .args .e) (c .before .before .before .before .before .before .before .before .before .before .before .args .x) ≡ false = sym (c .before .before .before .before .before .before .before .has .ensures) ∙ c .before .before .before .before .before .before .if2 .left in let d : possible (rulesIn (c .before .before .before .before .before .before .before .before .before .before .before .args .self .sheet)) (c .before .before .before .before .before .before .before .before .before .before .before .args .e) (c .before .before .before .before .before .before .before .before .before .before .before .args .x) ≡ true = possible-in (c .before .before .before .before .before .before .before .before .before .before .before .args .self .sheet) (c .before .before .before .before .before .before .before .before .before .before .before .args .e) (c .before .before .before .before .before .before .before .before .before .before .before .args .x) ∙ sym (c .before .before .before .before .apart .ensures) ∙ not-false (c .before .before .before .before .apart .result) (c .before .before .before .if3 .left) in let g : supported (rulesIn (c .before .before .before .before .before .before .before .before .before .before .before .args .self .sheet)) (c .before .before .before .before .before .before .before .before .before .before .before .args .e) (c .before .before .before .before .before .before .before .before .before .before .before .args .x) ≡ false = supported-in (c .before .before .before .before .before .before .before .before .before .before .before .args .self .sheet) (c .before .before .before .before .before .before .before .before .before .before .before .args .e) (c .before .before .before .before .before .before .before .before .before .before .before .args .x) ∙ sym (c .before .within .ensures) ∙ not-true (c .before .within .result) (c .if4 .taken) in rw (q, p, d, g)
+returns-4 c = let q : closed (rulesIn (c .before .before .before .before .before .before .before .before .before .before .before .args .self .sheet)) (c .before .before .before .before .before .before .before .before .before .before .before .args .x) ≡ false = sym (c .before .before .before .before .before .before .before .before .before .is-closed .ensures) ∙ c .before .before .before .if1 .left in let p : mem (c .before .before .before .before .before .before .before .before .before .before .before .args .e) (c .before .before .before .before .before .before .before .before .before .before .before .args .x) ≡ false = sym (c .before .before .before .before .before .before .before .before .has .ensures) ∙ c .before .before .if2 .left in let d : not (possible (rulesIn (c .before .before .before .before .before .before .before .before .before .before .before .args .self .sheet)) (c .before .before .before .before .before .before .before .before .before .before .before .args .e) (c .before .before .before .before .before .before .before .before .before .before .before .args .x)) ≡ false = ap not (possible-in (c .before .before .before .before .before .before .before .before .before .before .before .args .self .sheet) (c .before .before .before .before .before .before .before .before .before .before .before .args .e) (c .before .before .before .before .before .before .before .before .before .before .before .args .x) ∙ sym (c .before .before .before .before .before .before .apart .ensures)) ∙ c .before .if3 .left in let g : not (supported (rulesIn (c .before .before .before .before .before .before .before .before .before .before .before .args .self .sheet)) (c .before .before .before .before .before .before .before .before .before .before .before .args .e) (c .before .before .before .before .before .before .before .before .before .before .before .args .x)) ≡ true = ap not (supported-in (c .before .before .before .before .before .before .before .before .before .before .before .args .self .sheet) (c .before .before .before .before .before .before .before .before .before .before .before .args .e) (c .before .before .before .before .before .before .before .before .before .before .before .args .x) ∙ sym (c .before .before .before .before .within .ensures)) ∙ c .if4 .taken in rw (q, p, d, g)
 
 returns-5 : tie.Need-returns-5
 unfolding faultAt
-returns-5 c = let q : closed (rulesIn (c .before .before .before .before .before .before .before .before .before .before .before .args .self .sheet)) (c .before .before .before .before .before .before .before .before .before .before .before .args .x) ≡ false = sym (c .before .before .before .before .before .before .before .before .before .is-closed .ensures) ∙ c .before .before .before .before .before .before .before .before .if1 .left in let p : mem (c .before .before .before .before .before .before .before .before .before .before .before .args .e) (c .before .before .before .before .before .before .before .before .before .before .before .args .x) ≡ false = sym (c .before .before .before .before .before .before .before .has .ensures) ∙ c .before .before .before .before .before .before .if2 .left in let d : possible (rulesIn (c .before .before .before .before .before .before .before .before .before .before .before .args .self .sheet)) (c .before .before .before .before .before .before .before .before .before .before .before .args .e) (c .before .before .before .before .before .before .before .before .before .before .before .args .x) ≡ true = possible-in (c .before .before .before .before .before .before .before .before .before .before .before .args .self .sheet) (c .before .before .before .before .before .before .before .before .before .before .before .args .e) (c .before .before .before .before .before .before .before .before .before .before .before .args .x) ∙ sym (c .before .before .before .before .apart .ensures) ∙ not-false (c .before .before .before .before .apart .result) (c .before .before .before .if3 .left) in let g : supported (rulesIn (c .before .before .before .before .before .before .before .before .before .before .before .args .self .sheet)) (c .before .before .before .before .before .before .before .before .before .before .before .args .e) (c .before .before .before .before .before .before .before .before .before .before .before .args .x) ≡ true = supported-in (c .before .before .before .before .before .before .before .before .before .before .before .args .self .sheet) (c .before .before .before .before .before .before .before .before .before .before .before .args .e) (c .before .before .before .before .before .before .before .before .before .before .before .args .x) ∙ sym (c .before .within .ensures) ∙ not-false (c .before .within .result) (c .if4 .left) in rw (q, p, d, g)
+returns-5 c = let q : closed (rulesIn (c .before .before .before .before .before .before .before .before .before .before .before .args .self .sheet)) (c .before .before .before .before .before .before .before .before .before .before .before .args .x) ≡ false = sym (c .before .before .before .before .before .before .before .before .before .is-closed .ensures) ∙ c .before .before .before .if1 .left in let p : mem (c .before .before .before .before .before .before .before .before .before .before .before .args .e) (c .before .before .before .before .before .before .before .before .before .before .before .args .x) ≡ false = sym (c .before .before .before .before .before .before .before .before .has .ensures) ∙ c .before .before .if2 .left in let d : not (possible (rulesIn (c .before .before .before .before .before .before .before .before .before .before .before .args .self .sheet)) (c .before .before .before .before .before .before .before .before .before .before .before .args .e) (c .before .before .before .before .before .before .before .before .before .before .before .args .x)) ≡ false = ap not (possible-in (c .before .before .before .before .before .before .before .before .before .before .before .args .self .sheet) (c .before .before .before .before .before .before .before .before .before .before .before .args .e) (c .before .before .before .before .before .before .before .before .before .before .before .args .x) ∙ sym (c .before .before .before .before .before .before .apart .ensures)) ∙ c .before .if3 .left in let g : not (supported (rulesIn (c .before .before .before .before .before .before .before .before .before .before .before .args .self .sheet)) (c .before .before .before .before .before .before .before .before .before .before .before .args .e) (c .before .before .before .before .before .before .before .before .before .before .before .args .x)) ≡ false = ap not (supported-in (c .before .before .before .before .before .before .before .before .before .before .before .args .self .sheet) (c .before .before .before .before .before .before .before .before .before .before .before .args .e) (c .before .before .before .before .before .before .before .before .before .before .before .args .x) ∙ sym (c .before .before .before .before .within .ensures)) ∙ c .if4 .left in rw (q, p, d, g)
 
 pub fault-at-spec : {M : Type 1} → statement M
 fault-at-spec =
     tie.close
     (tie.spec
     is-closed-requires
-    returns
     has-requires
-    returns-2
     mul-apart
     element-copy-out-apart
     apart-requires
-    returns-3
     mul-within
     element-copy-out-within
     within-requires
+    returns
+    returns-2
+    returns-3
     returns-4
     returns-5)
