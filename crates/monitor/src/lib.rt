@@ -72,7 +72,7 @@ impl Monitor {
     }
 
     // Whether the state is one that 20 turns away.
-    fn is_bad(self) -> bool
+    pub fn is_bad(self) -> bool
         ensures { λ r. ⌜ r ≡ bad self ⌝ }
     {
         let kept = self.kept;

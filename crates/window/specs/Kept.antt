@@ -2,9 +2,13 @@
 -- Assumes nothing.
 use Prim.Native.Nat.{ℕ, zero, suc, _-_}
 use mathlib.Core.List.{List, _++_}
-use lib.ListN.{getD, set, take, drop, replicate}
+use lib.ListN.{length, getD, set, take, drop, replicate}
 use Rattle.meaning.specs.Rules.{Rules}
 use Rattle.meaning.specs.Steps.{nextRow}
+
+-- 64 places: what is in use, and 0 in the others
+unfoldable pub filled : List ℕ → List ℕ
+filled l = l ++ replicate (64 - length l) 0
 
 -- the row of the session before place j: what is carried where j is the first
 unfoldable pub rowBefore : ℕ → List ℕ → ℕ → ℕ

@@ -1,7 +1,6 @@
 -- `monitor::Monitor::fault_at` meets its contract.
 -- Assumes nothing.
-use Prim.Native.Nat.{_+_, _-_, _≤_, _<_}
-use mathlib.Core.Path.{_≡_, refl, sym, ap, _∙_}
+use mathlib.Core.Path.{_≡_, sym, ap, _∙_}
 use mathlib.Core.Bool.{true, false, not}
 use native.Mathlib.Omega.{arith}
 use Rattle.monitor.proofs.States.{possible-in, supported-in}
@@ -10,7 +9,6 @@ use Rattle.meaning.specs.Events.{closed, possible, supported}
 use Rattle.sheet.specs.Sound.{rulesIn}
 use Rattle.rows.proofs.Arms.{few-events}
 use Rattle.monitor.specs.Calls.{faultAt}
-use borrow.Author.Needs.{needs}
 use Rattle.monitor.proofs.Monitor.fault_at.Statement.{statement}
 use Rattle.monitor.proofs.Monitor.fault_at.Tie as tie
 

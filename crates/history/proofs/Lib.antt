@@ -1,0 +1,11 @@
+pub mod Loaded
+pub mod Lists
+pub mod Front
+pub mod Rows
+pub mod Standing
+pub mod Begins
+pub mod Added
+pub mod Records
+pub mod Asks
+pub mod Images
+pub mod Calls

@@ -1,0 +1,1 @@
+// What calls answer is what the whole history says: see specs/ and proofs/.

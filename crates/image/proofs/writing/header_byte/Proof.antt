@@ -1,0 +1,53 @@
+-- `image::writing::header_byte` meets its contract.
+-- Assumes nothing.
+use mathlib.Core.Path.{_∙_}
+use native.Mathlib.Omega.{arith}
+use Rattle.image.proofs.Parts.{header-mark, header-total, header-gone, header-row}
+use borrow.Author.Needs.{needs}
+use Rattle.image.proofs.writing.header_byte.Statement.{statement}
+use Rattle.image.proofs.writing.header_byte.Tie as tie
+
+mark-byte-requires : tie.Need-mark-byte-requires
+mark-byte-requires c κs = c .if1 .taken
+
+returns : tie.Need-returns
+returns c = c .mark-byte .ensures ∙ header-mark (c .before .before .args .total) (c .before .before .args .gone) (c .before .before .args .carried) (c .before .before .args .i) (c .before .if1 .taken)
+
+wide-requires : tie.Need-wide-requires
+wide-requires c κs = search needs
+
+byte-of-requires : tie.Need-byte-of-requires
+byte-of-requires c κs = omega arith
+
+returns-2 : tie.Need-returns-2
+returns-2 c = rw (c .byte-of .ensures, c .before .wide .ensures) (header-total (c .before .before .before .before .args .total) (c .before .before .before .before .args .gone) (c .before .before .before .before .args .carried) (c .before .before .before .before .args .i) (c .before .before .before .if1 .left) (c .before .before .if2 .taken))
+
+wide-requires-2 : tie.Need-wide-requires-2
+wide-requires-2 c κs = search needs
+
+byte-of-requires-2 : tie.Need-byte-of-requires-2
+byte-of-requires-2 c κs = omega arith
+
+returns-3 : tie.Need-returns-3
+returns-3 c = rw (c .byte-of2 .ensures, c .before .wide2 .ensures) (header-gone (c .before .before .before .before .before .args .total) (c .before .before .before .before .before .args .gone) (c .before .before .before .before .before .args .carried) (c .before .before .before .before .before .args .i) (c .before .before .before .if2 .left) (c .before .before .if3 .taken))
+
+byte-of-requires-3 : tie.Need-byte-of-requires-3
+byte-of-requires-3 c κs = let h = c .before .before .before .pre in omega arith
+
+returns-4 : tie.Need-returns-4
+returns-4 c = c .byte-of3 .ensures ∙ header-row (c .before .before .before .before .args .total) (c .before .before .before .before .args .gone) (c .before .before .before .before .args .carried) (c .before .before .before .before .args .i) (c .before .if3 .left) (c .before .before .before .before .pre)
+
+pub header-byte-spec : {M : Type 1} → statement M
+header-byte-spec =
+    tie.close
+    (tie.spec
+    mark-byte-requires
+    returns
+    wide-requires
+    byte-of-requires
+    returns-2
+    wide-requires-2
+    byte-of-requires-2
+    returns-3
+    byte-of-requires-3
+    returns-4)
