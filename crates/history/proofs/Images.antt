@@ -80,7 +80,7 @@ unfolding filled
 zeros-fill n l =
     ap (λ (k : ℕ). zeros n ++ zeros (64 - k)) (length-replicate n 0) ∙ zeros-join n (64 - n) ∙ ap zeros (let e : n + (64 - n) ≡ 64 = omega arith in e)
 
-sheet-is : (s : Sheet) (h : List ℕ) → monitorOf s h .sheet ≡ s
+pub sheet-is : (s : Sheet) (h : List ℕ) → monitorOf s h .sheet ≡ s
 unfolding monitorOf standing
 sheet-is s h = refl
 

@@ -9,3 +9,4 @@ pub mod Records
 pub mod Asks
 pub mod Images
 pub mod Calls
+pub mod Demand

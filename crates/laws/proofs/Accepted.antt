@@ -1,7 +1,7 @@
 -- What holds of a sheet that is accepted: its pairs lead upwards, its nodes are in order, its roots are well formed. It holds of what was read, record
 -- by record.
 -- Assumes nothing.
-use Prim.Native.Nat.{ℕ, zero, suc, _+_, _≤_, _<_}
+use Prim.Native.Nat.{ℕ, zero, suc, _≤_, _<_}
 use mathlib.Core.Path.{_≡_, refl, sym, ap, _∙_, subst}
 use mathlib.Core.Bool.{Bool, true, false, false≢true, not, cond, _&&_, _||_}
 use mathlib.Core.List.{List, [], _∷_, _++_, List·Memᴰ, List·Memᴰ·not-nil, List·Memᴰ·append-cases, List·Memᴰ·eq-of-singleton}
@@ -12,12 +12,12 @@ use native.Mathlib.Omega.{arith}
 use lib.Dec.{eqb, leb, ltb}
 use lib.ListN.{length, getD, length-append, List·getD-append}
 use lib.Seq.{getD-at}
-use borrow.Author.Tests.{leb-true, leb-false, ltb-true, ltb-false, eqb-true, eqb-false, eq-eqb, not-true, not-false}
+use borrow.Author.Tests.{leb-true, leb-false, ltb-true, ltb-false, eqb-true, eqb-false, eq-eqb, not-false}
 use Rattle.meaning.specs.Lists.{isEmpty}
-use Rattle.meaning.specs.Rules.{Node, Rules, nodeInRange, inOrder}
+use Rattle.meaning.specs.Rules.{Node, nodeInRange, inOrder}
 use Rattle.meaning.specs.Path.{wellFormed}
 use Rattle.meaning.specs.Refusals.{Answer, good, refused}
-use Rattle.meaning.specs.Sheet.{Root, Sheet, Item, count, cause, conflict, root, node, kinds, kindAt, kindNumber, Reading, nothingRead, keyOf, noted, afterItem, Tally, tally, ascends, disordered, soFar, knownAccess, pairInRange, inRange, rootFormed, itemFault, itemAt, fault, walk, withNodes, sheetOf, rulesOf, framed, behind}
+use Rattle.meaning.specs.Sheet.{Root, Sheet, Item, count, cause, conflict, root, node, kinds, kindAt, kindNumber, Reading, nothingRead, keyOf, noted, afterItem, Tally, tally, ascends, disordered, soFar, pairInRange, inRange, rootFormed, itemFault, itemAt, fault, walk, withNodes, sheetOf, rulesOf, framed, behind}
 use Rattle.laws.proofs.Quantifiers.{or-cases, or-false, and-left, and-right, and-both, every-if}
 use Rattle.laws.proofs.Chains.{Listed, Upward}
 
@@ -335,3 +335,32 @@ unfolding rulesOf inOrder
 accepted-order bytes s e =
     let w = accepted bytes s e in
     subst (λ (x : Sheet). inOrder (rulesOf x) ≡ true) (w .2) (every-if _ (length (w .0 .lists .nodes)) (w .1 .nodes-in))
+
+-- no refusal has the number 0
+walk-nonzero : (n : ℕ) (g : Reading) (s : List ℕ) (k : ℕ) → walk n g s ≡ refused k → k ≡ 0 → ⊥
+unfolding walk
+walk-nonzero zero g [] k e z = let y : _≡_ {A = ℕ} 0 1 = cc in omega arith
+walk-nonzero (suc n) g [] k e z = let y : _≡_ {A = ℕ} 0 1 = cc in omega arith
+walk-nonzero zero g (b ∷ s) k e z = let y : _≡_ {A = ℕ} 11 k = cc in omega arith
+walk-nonzero (suc n) g (b ∷ s) k e z = go (eqb (fault g (b ∷ s)) 0) refl e (λ q. walk-nonzero n (afterItem g (itemAt (b ∷ s))) (behind (b ∷ s)) k q z)
+  where
+    go : (t : Bool) → eqb (fault g (b ∷ s)) 0 ≡ t → cond t (walk n (afterItem g (itemAt (b ∷ s))) (behind (b ∷ s))) (refused (fault g (b ∷ s))) ≡ refused k
+        → (walk n (afterItem g (itemAt (b ∷ s))) (behind (b ∷ s)) ≡ refused k → ⊥) → ⊥
+    go true q e ih = ih e
+    go false q e ih = let y : fault g (b ∷ s) ≡ k = cc in eqb-false (fault g (b ∷ s)) 0 q (y ∙ z)
+
+pub sheet-nonzero : (bytes : List ℕ) (k : ℕ) → sheetOf bytes ≡ refused k → k ≡ 0 → ⊥
+unfolding sheetOf withNodes
+sheet-nonzero bytes k e z = go (ltb 4096 (length bytes)) e
+  where
+    noded : (t : Bool) (s : Sheet) → cond t (refused 16) (good s) ≡ refused k → ⊥
+    noded true s e = let y : _≡_ {A = ℕ} 16 k = cc in omega arith
+    noded false s e = let y : _≡_ {A = ℕ} 0 1 = cc in omega arith
+
+    ended : (a : Answer Sheet) → (a ≡ refused k → ⊥) → withNodes a ≡ refused k → ⊥
+    ended (good s) h e = noded (isEmpty (s .nodes)) s e
+    ended (refused n) h e = h e
+
+    go : (t : Bool) → cond t (refused 10) (withNodes (walk (length bytes) nothingRead bytes)) ≡ refused k → ⊥
+    go true e = let y : _≡_ {A = ℕ} 10 k = cc in omega arith
+    go false e = ended (walk (length bytes) nothingRead bytes) (λ q. walk-nonzero (length bytes) nothingRead bytes k q z) e

@@ -1,19 +1,17 @@
 -- The path question, one law for each way out.
 -- Assumes nothing.
-use Prim.Native.Nat.{ℕ, zero, suc, _+_, _-_, _≤_, _<_}
+use Prim.Native.Nat.{ℕ, _+_, _-_, _≤_, _<_}
 use mathlib.Core.Path.{_≡_, refl, sym, ap, _∙_, subst}
-use mathlib.Core.Bool.{Bool, true, false, not, cond, _||_}
-use mathlib.Core.List.{List, [], _∷_}
+use mathlib.Core.Bool.{Bool, true, false, cond}
+use mathlib.Core.List.{List, []}
 use native.Mathlib.Omega.{arith}
-use lib.Dec.{eqb, leb, ltb}
-use lib.ListN.{length, getD, take, drop}
-use borrow.Author.Tests.{eq-eqb, ne-eqb, lt-ltb, le-ltb, le-leb, lt-leb, eqb-false}
+use lib.ListN.{length, take, drop}
+use borrow.Author.Tests.{eq-eqb, ne-eqb, lt-ltb, le-ltb, le-leb, lt-leb}
 use Rattle.meaning.specs.Path.{wellFormed, restAfter}
 use Rattle.meaning.specs.Refusals.{Answer, good, refused}
-use Rattle.meaning.specs.Sheet.{Reading, nothingRead, knownAccess, fault, walk, withNodes, sheetOf, afterItem, itemAt, behind}
-use Rattle.meaning.specs.Lists.{isEmpty}
+use Rattle.meaning.specs.Sheet.{knownAccess, sheetOf}
 use Rattle.meaning.specs.Sheet
-use Rattle.meaning.specs.Question.{Match, under, nowhere, longest, found, pathFault, pathIn, askedOf, question}
+use Rattle.meaning.specs.Question.{under, nowhere, found, pathFault, pathIn, askedOf, question}
 use Rattle.meaning.specs.Question
 use Rattle.sheet.specs.declared.Loaded.{Loaded}
 use Rattle.sheet.specs.Loads.{answered}
@@ -22,36 +20,8 @@ use Rattle.path.specs.declared.Event.{Event}
 use Rattle.path.specs.declared.Found.{Found}
 use Rattle.path.specs.declared.Found.the-variants.{Under, Refused}
 use Rattle.path.specs.Search.{Accepted, Within, Best, matchAt, answer, Answers, eventOf, rootOf, restOf}
+use Rattle.laws.proofs.Accepted.{sheet-nonzero}
 use Rattle.path.proofs.Covering.{here-length}
-
--- no refusal has the number 0
-walk-nonzero : (n : ℕ) (g : Reading) (s : List ℕ) (k : ℕ) → walk n g s ≡ refused k → k ≡ 0 → ⊥
-unfolding walk
-walk-nonzero zero g [] k e z = let y : _≡_ {A = ℕ} 0 1 = cc in omega arith
-walk-nonzero (suc n) g [] k e z = let y : _≡_ {A = ℕ} 0 1 = cc in omega arith
-walk-nonzero zero g (b ∷ s) k e z = let y : _≡_ {A = ℕ} 11 k = cc in omega arith
-walk-nonzero (suc n) g (b ∷ s) k e z = go (eqb (fault g (b ∷ s)) 0) refl e (λ q. walk-nonzero n (afterItem g (itemAt (b ∷ s))) (behind (b ∷ s)) k q z)
-  where
-    go : (t : Bool) → eqb (fault g (b ∷ s)) 0 ≡ t → cond t (walk n (afterItem g (itemAt (b ∷ s))) (behind (b ∷ s))) (refused (fault g (b ∷ s))) ≡ refused k
-        → (walk n (afterItem g (itemAt (b ∷ s))) (behind (b ∷ s)) ≡ refused k → ⊥) → ⊥
-    go true q e ih = ih e
-    go false q e ih = let y : fault g (b ∷ s) ≡ k = cc in eqb-false (fault g (b ∷ s)) 0 q (y ∙ z)
-
-sheet-nonzero : (bytes : List ℕ) (k : ℕ) → sheetOf bytes ≡ refused k → k ≡ 0 → ⊥
-unfolding sheetOf withNodes
-sheet-nonzero bytes k e z = go (ltb 4096 (length bytes)) e
-  where
-    noded : (t : Bool) (s : Sheet.Sheet) → cond t (refused 16) (good s) ≡ refused k → ⊥
-    noded true s e = let y : _≡_ {A = ℕ} 16 k = cc in omega arith
-    noded false s e = let y : _≡_ {A = ℕ} 0 1 = cc in omega arith
-
-    ended : (a : Answer Sheet.Sheet) → (a ≡ refused k → ⊥) → withNodes a ≡ refused k → ⊥
-    ended (good s) h e = noded (isEmpty (s .nodes)) s e
-    ended (refused n) h e = h e
-
-    go : (t : Bool) → cond t (refused 10) (withNodes (walk (length bytes) nothingRead bytes)) ≡ refused k → ⊥
-    go true e = let y : _≡_ {A = ℕ} 10 k = cc in omega arith
-    go false e = ended (walk (length bytes) nothingRead bytes) (λ q. walk-nonzero (length bytes) nothingRead bytes k q z) e
 
 -- THE SHEET FIRST
 

@@ -1,0 +1,1 @@
+// What a host is promised of every call: see proofs/Coincide.antt.
