@@ -1,9 +1,7 @@
-// Runs the library on commands: reads them from standard input, one on a line, and writes one line for each. The commands are in calls.rt.
-mod answer;
-mod calls;
-
-use answer::Buffer;
-use calls::State;
+// Runs the library on commands: takes standard input line by line, and writes one line for each. A line is run by `lines`.
+use answers::buffer;
+use answers::buffer::Buffer;
+use lines::State;
 
 // The room for a line. A line that fills it is too long, so that its end need not be kept.
 const ROOM: usize = 16384;
@@ -33,10 +31,10 @@ fn finish(state: State, line: &[u8], out: &mut Buffer, at: &mut usize) -> State 
         return state;
     }
     if ROOM <= line.len() {
-        answer::unknown(out, at);
+        answers::unknown(out, at);
         return state;
     }
-    calls::run(state, line, out, at)
+    lines::run(state, line, out, at)
 }
 
 // Takes a piece of the input: what ends a line runs it, and what is left over waits in the line for the next piece.
@@ -93,7 +91,7 @@ fn run(piece: &mut [u8; 65536], line: &mut Line, out: &mut Buffer) {
     let state = pieces(piece, line, &mut n, out, &mut at);
     // The last line may lack its newline.
     finish(state, text::front(line, n), out, &mut at);
-    answer::flush(out, &mut at);
+    buffer::flush(out, &mut at);
 }
 
 // Answers standard input on standard output.

@@ -14,6 +14,12 @@ pub enum Number {
     Wrong,
 }
 
+// What a text says in decimal, where the number is one of 32 bits.
+pub enum Number32 {
+    Is(u32),
+    Wrong,
+}
+
 // What two hexadecimal digits say.
 enum Pair {
     Byte(u8),
@@ -83,6 +89,11 @@ pub fn leads(s: &[u8], word: &[u8]) -> bool {
     begins(s, word)
 }
 
+// The first word of s: what stands before its first space.
+pub fn word(s: &[u8]) -> &[u8] {
+    front(s, until(s, b' '))
+}
+
 // What follows the first space of s: nothing where it has none.
 pub fn argument(s: &[u8]) -> &[u8] {
     let n = until(s, b' ');
@@ -125,6 +136,17 @@ pub fn decimal(s: &[u8]) -> Number {
         i += 1;
     }
     Number::Is(n)
+}
+
+// The same, for a number that fits 32 bits.
+pub fn decimal32(s: &[u8]) -> Number32 {
+    let Number::Is(n) = decimal(s) else {
+        return Number32::Wrong;
+    };
+    if 4294967295 < n {
+        return Number32::Wrong;
+    }
+    Number32::Is(n as u32)
 }
 
 // What a hexadecimal digit says, or 16 where c is none.

@@ -1,10 +1,10 @@
--- `commands::answer::hex` is safe and ends. The measure is what is left of the bytes.
+-- `answers::buffer::hex` is safe and ends. The measure is what is left of the bytes.
 -- Assumes nothing.
 use borrow.Author.Needs.{needs}
 use Prim.Native.Nat.{_≤_, _-_}
 use lib.ListN.{length}
-use Rattle.commands.proofs.answer.hex.Statement.{statement}
-use Rattle.commands.proofs.answer.hex.Tie as tie
+use Rattle.answers.proofs.buffer.hex.Statement.{statement}
+use Rattle.answers.proofs.buffer.hex.Tie as tie
 
 abbrev Inv-loop : tie.InvT-loop
 Inv-loop out₀ at₀ s i₀ out at i = i ≤ length s

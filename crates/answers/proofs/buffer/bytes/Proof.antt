@@ -1,10 +1,10 @@
--- `commands::answer::bytes` is safe and ends. The measure is what is left of the bytes.
+-- `answers::buffer::bytes` is safe and ends. The measure is what is left of the bytes.
 -- Assumes nothing.
 use borrow.Author.Needs.{needs}
 use Prim.Native.Nat.{_≤_, _-_}
 use lib.ListN.{length}
-use Rattle.commands.proofs.answer.bytes.Statement.{statement}
-use Rattle.commands.proofs.answer.bytes.Tie as tie
+use Rattle.answers.proofs.buffer.bytes.Statement.{statement}
+use Rattle.answers.proofs.buffer.bytes.Tie as tie
 
 abbrev Inv-loop : tie.InvT-loop
 Inv-loop out₀ at₀ s i₀ out at i = i ≤ length s

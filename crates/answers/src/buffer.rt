@@ -1,4 +1,4 @@
-// What is written: gathered in a buffer, of which the first bytes up to at are still to be written, and handed over when the buffer is full and at the end.
+// What is written is gathered in a buffer, of which the first bytes up to at are still to be written, and handed over when the buffer is full and at the end.
 // So a run of very many lines asks the system only now and then.
 
 // The room for what is to be written.
@@ -57,24 +57,4 @@ pub fn hex(out: &mut Buffer, at: &mut usize, s: &[u8]) {
         byte(out, at, digit(s[i]));
         i += 1;
     }
-}
-
-// The line of a command that could not be read.
-pub fn unknown(out: &mut Buffer, at: &mut usize) {
-    bytes(out, at, b"?\n");
-}
-
-fn wide(n: u32) -> u64 {
-    n as u64
-}
-
-// The line of a refusal: "r" and its number, or "ok" for 0.
-pub fn refusal(out: &mut Buffer, at: &mut usize, number: u32) {
-    if number == 0 {
-        bytes(out, at, b"ok\n");
-        return;
-    }
-    byte(out, at, b'r');
-    decimal(out, at, wide(number));
-    byte(out, at, b'\n');
 }

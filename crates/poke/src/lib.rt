@@ -1,0 +1,144 @@
+// Puts a number into the stored state, whatever comes of it: this is how states that no call made are reached.
+ghost use Prim.Native.Nat.{_<_};
+use monitor::Monitor;
+use sheet::Sheet;
+use text::Number;
+use text::Number32;
+
+// The fields that can be named.
+enum Field {
+    Total,
+    LetGo,
+    Kept,
+    Row,
+    Set,
+    Events,
+    Nodes,
+    Kind,
+    Left,
+    Right,
+    Unknown,
+}
+
+// The monitor afterwards, and whether the words named a place of a field and a number; if not, the monitor is as it was.
+pub struct Poked {
+    pub monitor: Monitor,
+    pub known: bool,
+}
+
+// The field of the monitor that the word names.
+fn field_of(word: &[u8]) -> Field {
+    if text::same(word, b"total") {
+        return Field::Total;
+    }
+    if text::same(word, b"letgo") {
+        return Field::LetGo;
+    }
+    if text::same(word, b"kept") {
+        return Field::Kept;
+    }
+    if text::same(word, b"row") {
+        return Field::Row;
+    }
+    if text::same(word, b"set") {
+        return Field::Set;
+    }
+    field_of_sheet(word)
+}
+
+// The field of the monitor's sheet that the word names.
+fn field_of_sheet(word: &[u8]) -> Field {
+    if text::same(word, b"events") {
+        return Field::Events;
+    }
+    if text::same(word, b"nodes") {
+        return Field::Nodes;
+    }
+    if text::same(word, b"kind") {
+        return Field::Kind;
+    }
+    if text::same(word, b"left") {
+        return Field::Left;
+    }
+    if text::same(word, b"right") {
+        return Field::Right;
+    }
+    Field::Unknown
+}
+
+// How many places a field has. Behind the 64 rows of the kept sessions stands the row that is carried.
+fn places(f: Field) -> u32 {
+    match f {
+        Field::Total | Field::LetGo | Field::Kept | Field::Events | Field::Nodes => 1,
+        Field::Row => 65,
+        Field::Set | Field::Kind | Field::Left | Field::Right => 64,
+        Field::Unknown => 0,
+    }
+}
+
+fn low32(v: u64) -> u32 {
+    (v % 4294967296) as u32
+}
+
+fn low8(v: u64) -> u8 {
+    (v % 256) as u8
+}
+
+// Puts v at place i of a field of the sheet.
+fn put_in_sheet(mut s: Sheet, f: Field, i: usize, v: u64) -> Sheet
+    requires { ⌜ i < 64 ⌝ }
+{
+    match f {
+        Field::Events => s.events = v as usize,
+        Field::Nodes => s.nodes = v as usize,
+        Field::Kind => s.kinds[i] = low8(v),
+        Field::Left => s.left[i] = low8(v),
+        Field::Right => s.right[i] = low8(v),
+        _ => {}
+    }
+    s
+}
+
+// Puts v at place i of a field; only the row has a place 64.
+fn put(mut m: Monitor, f: Field, i: usize, v: u64) -> Monitor {
+    if 64 <= i {
+        m.carried = v;
+        return m;
+    }
+    match f {
+        Field::Total => m.total = low32(v),
+        Field::LetGo => m.gone = low32(v),
+        Field::Kept => m.kept = v as usize,
+        Field::Row => m.rows[i] = v,
+        Field::Set => m.sets[i] = low32(v),
+        _ => {
+            let s = m.sheet;
+            let later = put_in_sheet(s, f, i, v);
+            m.sheet = later;
+        }
+    }
+    m
+}
+
+// FIELD I V.
+pub fn poke(m: Monitor, words: &[u8]) -> Poked {
+    let more = text::argument(words);
+    let wrong = Poked {
+        monitor: m,
+        known: false,
+    };
+    let Number32::Is(i) = text::decimal32(text::word(more)) else {
+        return wrong;
+    };
+    let Number::Is(v) = text::decimal(text::argument(more)) else {
+        return wrong;
+    };
+    let f = field_of(text::word(words));
+    if places(f) <= i {
+        return wrong;
+    }
+    Poked {
+        monitor: put(m, f, i as usize, v),
+        known: true,
+    }
+}
