@@ -14,7 +14,7 @@ use borrow.Author.Tests.{ne-eqb, ltb-true, ltb-false, le-leb, lt-leb}
 use Rattle.meaning.specs.Rules.{Rules}
 use Rattle.meaning.specs.Refusals.{Answer, good}
 use Rattle.meaning.specs.Sheet.{Sheet as Lists, sheetOf, rulesOf}
-use Rattle.meaning.specs.History.{Told, After, restored, refused, keptMost}
+use Rattle.meaning.specs.History.{After, restored, refused, keptMost}
 use Rattle.meaning.specs.History
 use Rattle.meaning.specs.Image.{Image, imageBytes, imageOf, save, misshapen, unlawful, said, readImage}
 use Rattle.laws.proofs.Accepted.{sheet-nonzero}
@@ -33,7 +33,7 @@ use Rattle.image.specs.declared.Restored.{Restored}
 use Rattle.image.specs.Images.{imageIn, saveFault, saveOf, bufferAfter, restoredAs, restoreOf}
 use Rattle.history.specs.Made.{monitorOf, Lawful, Made}
 use Rattle.history.specs.Answers.{unless, begunTold, recordedTold, checkedTold, countedTold, savedTold, restoredTold}
-use Rattle.history.specs.Sequences.{Call, begin, check, counts, recording, saving, restoring, Heard, heard, Moment, Past, nothingYet, _among_, follows, afterSaving, Returns, Refuses, Goes, Whole, Hands, wroteToo, Answers, Run, Fresh, ByTheHistory, Demand3}
+use Rattle.history.specs.Sequences.{Call, begin, check, counts, anew, recording, saving, restoring, Heard, heard, left, silence, Moment, Past, nothingYet, _among_, follows, afterSaving, Returns, Refuses, Goes, Whole, Hands, wroteToo, Saved-before, Answers, Run, Fresh, ByTheHistory, Demand3}
 use Rattle.history.proofs.Loaded.{rules-stored}
 use Rattle.history.proofs.Standing.{not-bad}
 use Rattle.history.proofs.Images.{image-is, sheet-is}
@@ -49,7 +49,31 @@ image-nonzero r bytes n e z = go (misshapen keptMost bytes) (unlawful r (said by
     go false true e = let y : _≡_ {A = ℕ} 43 n = cc in omega arith
     go false false e = let y : _≡_ {A = ℕ} 0 1 = cc in omega arith
 
-module _ (s : Sheet) where
+-- what the code of `load` and `new` promises of bytes that load
+fresh-of : (bytes : List ℕ) (m : Monitor) → Fresh bytes m → (l : Lists) × (sheetOf bytes ≡ good l) × (m ≡ fresh (stored l))
+unfolding Fresh answered
+fresh-of bytes m (κs, lent, loaded, hb, ll, z, ln) = go (sheetOf bytes) refl
+  where
+    go : (a : Answer Lists) → sheetOf bytes ≡ a → (l : Lists) × (sheetOf bytes ≡ good l) × (m ≡ fresh (stored l))
+    go (good l) e = (l, e, ln ∙ ap (λ (x : Loaded). fresh (x .sheet)) (ll ∙ ap (λ (b : List ℕ). answered (sheetOf b)) hb ∙ ap answered e))
+    go (Answer.refused n) e =
+        absurd (sheet-nonzero bytes n e (ap (λ (x : Loaded). x .number) (sym (ll ∙ ap (λ (b : List ℕ). answered (sheetOf b)) hb ∙ ap answered e)) ∙ z))
+
+-- and there is one such sheet
+fresh-again : (bytes : List ℕ) (l : Lists) (m : Monitor) → sheetOf bytes ≡ good l → Fresh bytes m → m ≡ fresh (stored l)
+fresh-again bytes l m e f =
+    let (k, g, q) = fresh-of bytes m f in
+    let same : l ≡ k = ap listsIn (sym e ∙ g) in
+    q ∙ ap (λ (x : Lists). fresh (stored x)) (sym same)
+  where
+    listsIn : Answer Lists → Lists
+    listsIn (good x) = x
+    listsIn (Answer.refused n) = l
+
+module _ (sheet : List ℕ) (l : Lists) (loads : sheetOf sheet ≡ good l) where
+  abbrev s : Sheet
+  s = stored l
+
   abbrev r : Rules
   r = rulesIn s
 
@@ -82,7 +106,7 @@ module _ (s : Sheet) where
     abbrev Agrees : After → Heard → Monitor → List (List ℕ) → Type 0
     Agrees a x n v = (x ≡ heard (a .told)) × Stands (record { history = a .history; moments = p .moments }) n v
 
-    begin-agrees : (x : Heard) (n : Monitor) (v : List (List ℕ)) → Answers m w begin x n v → Agrees (History.begin r keptMost h) x n v
+    begin-agrees : (x : Heard) (n : Monitor) (v : List (List ℕ)) → Answers sheet r m w begin x n v → Agrees (History.begin r keptMost h) x n v
     unfolding Answers Hands
     begin-agrees x n v (a, l, (hx, hn), hv) = (
       hx ∙ ap (λ (b : Begun). heard (begunTold b)) l ∙ ap heard (begin-tells s h m (d .made)),
@@ -90,7 +114,7 @@ module _ (s : Sheet) where
     )
 
     record-agrees :
-        (session e : ℕ) (x : Heard) (n : Monitor) (v : List (List ℕ)) → Answers m w (recording session e) x n v
+        (session e : ℕ) (x : Heard) (n : Monitor) (v : List (List ℕ)) → Answers sheet r m w (recording session e) x n v
         → Agrees (History.recordIn r h session e) x n v
     unfolding Answers Hands
     record-agrees session e x n v (a, l, (hx, hn), hv) = (
@@ -98,19 +122,25 @@ module _ (s : Sheet) where
       goes-on _ (recordOf m session e .monitor) n v (made-recorded s h m (d .made) session e) (hn ∙ ap (λ (b : Recorded). b .monitor) l) hv,
     )
 
-    check-agrees : (x : Heard) (n : Monitor) (v : List (List ℕ)) → Answers m w check x n v → Agrees (History.check r h) x n v
+    check-agrees : (x : Heard) (n : Monitor) (v : List (List ℕ)) → Answers sheet r m w check x n v → Agrees (History.check r h) x n v
     unfolding Answers Hands
     check-agrees x n v (a, l, (hx, hn), hv) = (
       hx ∙ ap (λ (b : Checked). heard (checkedTold b)) l ∙ ap heard (check-tells s h m (d .made)),
       goes-on _ (checkOf m .monitor) n v (made-checked s h m (d .made)) (hn ∙ ap (λ (b : Checked). b .monitor) l) hv,
     )
 
-    counts-agree : (x : Heard) (n : Monitor) (v : List (List ℕ)) → Answers m w counts x n v → Agrees (History.counts r h) x n v
+    counts-agree : (x : Heard) (n : Monitor) (v : List (List ℕ)) → Answers sheet r m w counts x n v → Agrees (History.counts r h) x n v
     unfolding Answers Hands
     counts-agree x n v (a, l, (hx, hn), hv) = (
       hx ∙ ap (λ (b : Counted). heard (countedTold b)) l ∙ ap heard (counts-tell s h m (d .made)),
       goes-on _ (countsOf m .monitor) n v (made-counted s h m (d .made)) (hn ∙ ap (λ (b : Counted). b .monitor) l) hv,
     )
+
+    anew-agrees :
+        (x : Heard) (n : Monitor) (v : List (List ℕ)) → Answers sheet r m w anew x n v
+        → (x ≡ silence) × Stands (record { history = []; moments = p .moments }) n v
+    unfolding Answers
+    anew-agrees x n v (f, hx, hv) = (hx, goes-on [] (fresh s) n v (made-fresh sheet l loads) (fresh-again sheet l n loads f) hv)
 
     fine : bad m ≡ false
     fine = ap bad (d .made .stands) ∙ not-bad s h (d .made .history)
@@ -159,22 +189,19 @@ module _ (s : Sheet) where
       saved-same = refl
 
       save-agrees :
-          (x : Heard) (n : Monitor) (v : List (List ℕ)) → Answers m w (saving buffer) x n v
-          → (x ≡ record { told = save r h buffer .told; buffer = save r h buffer .buffer }) × Stands (afterSaving r p buffer) n v
+          (x : Heard) (n : Monitor) (v : List (List ℕ)) → Answers sheet r m w (saving buffer) x n v
+          → (x ≡ left (save r h buffer .told) (save r h buffer .buffer)) × Stands (afterSaving r p buffer) n v
       unfolding Answers Hands
-      save-agrees x n v (κs, lent, left, a, hb, (la, lb), (hx, hn), hv) =
+      save-agrees x n v (κs, lent, after, a, hb, (la, lb), (hx, hn), hv) =
           let ea : a ≡ saveOf m buffer = la ∙ ap (saveOf m) hb in
-          let eb : now left ≡ bufferAfter m buffer = lb ∙ ap (bufferAfter m) hb in
+          let eb : now after ≡ bufferAfter m buffer = lb ∙ ap (bufferAfter m) hb in
           let en : n ≡ m = hn ∙ ap (λ (y : Saved). y .monitor) ea ∙ saved-same in
           let ev : v ≡ wroteToo (saveOf m buffer) (bufferAfter m buffer) w = hv ∙ ap₂ (λ (y : Saved) (z : List ℕ). wroteToo y z w) ea eb in (
             hx
-                ∙ ap₂ heard-as (ap savedTold ea ∙ save-tells s h m (d .made) buffer) (eb ∙ save-writes s h m (d .made) buffer),
+                ∙ ap₂ left (ap savedTold ea ∙ save-tells s h m (d .made) buffer) (eb ∙ save-writes s h m (d .made) buffer),
             subst (λ (y : Monitor). Stands (afterSaving r p buffer) y v) (sym en)
                 (subst (Stands (afterSaving r p buffer) m) (sym ev) (saved-moment (ltb (length buffer) (length bytes)) refl)),
           )
-        where
-          heard-as : Told → List ℕ → Heard
-          heard-as y z = record { told = y; buffer = z }
 
     -- RESTORING
 
@@ -194,11 +221,7 @@ module _ (s : Sheet) where
       unfolding restoreOf restoredAs
       refused-as i e = rw (fine, sheet-stays, e)
 
-      accepted-as : (i : Image) → readImage keptMost r bytes ≡ good i → restoreOf m bytes .number ≡ 0
-      unfolding restoreOf restoredAs
-      accepted-as i e = rw (fine, sheet-stays, e)
-
-      module _ (x : Heard) (n : Monitor) (v : List (List ℕ)) (g : Answers m w (restoring bytes) x n v) where
+      module _ (x : Heard) (n : Monitor) (v : List (List ℕ)) (g : Answers sheet r m w (restoring bytes) x n v) where
         -- what the code promises, of these bytes
         heard-is : x ≡ heard (restoredTold (restoreOf m bytes))
         unfolding Answers Hands
@@ -212,9 +235,9 @@ module _ (s : Sheet) where
         unfolding Answers Hands
         wrote-is = let (κs, lent, a, hb, la, (hx, hn), hv, hw) = g in hv
 
-        saved-before : restoreOf m bytes .number ≡ 0 → bytes among w
-        unfolding Answers Hands
-        saved-before z = let (κs, lent, a, hb, la, (hx, hn), hv, hw) = g in hw (ap (λ (b : Restored). b .number) (la ∙ ap (restoreOf m) hb) ∙ z)
+        saved-before : (i : Image) → readImage keptMost r bytes ≡ good i → bytes among w
+        unfolding Answers Hands Saved-before
+        saved-before = let (κs, lent, a, hb, la, (hx, hn), hv, hw) = g in hw
 
         back-to :
             (k : Moment) → k among (p .moments) → k .written ≡ bytes
@@ -238,19 +261,20 @@ module _ (s : Sheet) where
 
     -- the past can go where the code went
     some-way :
-        (c : Call) (x : Heard) (n : Monitor) (v : List (List ℕ)) → Answers m w c x n v
+        (c : Call) (x : Heard) (n : Monitor) (v : List (List ℕ)) → Answers sheet r m w c x n v
         → (q : Past) × Goes r p c x q × Stands q n v
     unfolding Goes follows
     some-way begin x n v g = let a = begin-agrees x n v g in (_, (a .0, refl), a .1)
     some-way (recording session e) x n v g = let a = record-agrees session e x n v g in (_, (a .0, refl), a .1)
     some-way check x n v g = let a = check-agrees x n v g in (_, (a .0, refl), a .1)
     some-way counts x n v g = let a = counts-agree x n v g in (_, (a .0, refl), a .1)
+    some-way anew x n v g = let a = anew-agrees x n v g in (_, (a .0, refl), a .1)
     some-way (saving buffer) x n v g = let a = save-agrees buffer x n v g in (_, (a .0, refl), a .1)
     some-way (restoring bytes) x n v g = go (readImage keptMost r bytes) refl
       where
         go : (y : Answer Image) → readImage keptMost r bytes ≡ y → (q : Past) × (Returns r p bytes x q ⊎ Refuses r p bytes x q) × Stands q n v
         go (good i) e =
-            let k = d .known bytes (saved-before bytes x n v g (accepted-as bytes i e)) in
+            let k = d .known bytes (saved-before bytes x n v g i e) in
             let a = back-to bytes x n v g (k .0) (k .1) (k .2) in
             (_, inl (record { moment = k .0; saved-then = k .1; wrote = k .2; tells = a .0; after = refl }), a .1)
         go (Answer.refused i) e =
@@ -259,13 +283,14 @@ module _ (s : Sheet) where
 
     -- whichever way it goes, the same is heard, and code and past stand as before
     every-way :
-        (c : Call) (x y : Heard) (n : Monitor) (v : List (List ℕ)) (q : Past) → Answers m w c x n v → Goes r p c y q
+        (c : Call) (x y : Heard) (n : Monitor) (v : List (List ℕ)) (q : Past) → Answers sheet r m w c x n v → Goes r p c y q
         → (y ≡ x) × Stands q n v
     unfolding Goes follows
     every-way begin x y n v q g f = let a = begin-agrees x n v g in (f .0 ∙ sym (a .0), subst (λ (z : Past). Stands z n v) (sym (f .1)) (a .1))
     every-way (recording session e) x y n v q g f = let a = record-agrees session e x n v g in (f .0 ∙ sym (a .0), subst (λ (z : Past). Stands z n v) (sym (f .1)) (a .1))
     every-way check x y n v q g f = let a = check-agrees x n v g in (f .0 ∙ sym (a .0), subst (λ (z : Past). Stands z n v) (sym (f .1)) (a .1))
     every-way counts x y n v q g f = let a = counts-agree x n v g in (f .0 ∙ sym (a .0), subst (λ (z : Past). Stands z n v) (sym (f .1)) (a .1))
+    every-way anew x y n v q g f = let a = anew-agrees x n v g in (f .0 ∙ sym (a .0), subst (λ (z : Past). Stands z n v) (sym (f .1)) (a .1))
     every-way (saving buffer) x y n v q g f = let a = save-agrees buffer x n v g in (f .0 ∙ sym (a .0), subst (λ (z : Past). Stands z n v) (sym (f .1)) (a .1))
     every-way (restoring bytes) x y n v q g f =
         ⊎-elim
@@ -276,7 +301,7 @@ module _ (s : Sheet) where
   -- SEQUENCES
 
   some-past :
-      (cs : List Call) (xs : List Heard) (p : Past) (m : Monitor) (w : List (List ℕ)) → Stands p m w → Run m w cs xs → Whole r p cs xs
+      (cs : List Call) (xs : List Heard) (p : Past) (m : Monitor) (w : List (List ℕ)) → Stands p m w → Run sheet r m w cs xs → Whole r p cs xs
   unfolding Run Whole
   some-past [] [] p m w d g = tt
   some-past [] (x ∷ xs) p m w d g = g
@@ -285,7 +310,7 @@ module _ (s : Sheet) where
       let t = some-way p m w d c x n v g in (t .0, t .1, some-past cs xs (t .0) n v (t .2) rest)
 
   every-past :
-      (cs : List Call) (xs ys : List Heard) (p : Past) (m : Monitor) (w : List (List ℕ)) → Stands p m w → Run m w cs xs → Whole r p cs ys → ys ≡ xs
+      (cs : List Call) (xs ys : List Heard) (p : Past) (m : Monitor) (w : List (List ℕ)) → Stands p m w → Run sheet r m w cs xs → Whole r p cs ys → ys ≡ xs
   unfolding Run Whole
   every-past [] [] [] p m w d g f = refl
   every-past [] [] (y ∷ ys) p m w d g f = absurd f
@@ -295,34 +320,21 @@ module _ (s : Sheet) where
   every-past (c ∷ cs) (x ∷ xs) (y ∷ ys) p m w d (n, v, g, rest) (q, f, further) =
       let t = every-way p m w d c x y n v q g f in ap₂ (λ (a : Heard) (l : List Heard). a ∷ l) (t .0) (every-past cs xs ys q n v (t .1) rest further)
 
--- THE THEOREM
+  -- THE THEOREM
 
--- code and past stand so before the first call
-start : (bytes : List ℕ) (l : Lists) → sheetOf bytes ≡ good l → Stands (stored l) nothingYet (fresh (stored l)) []
-unfolding nothingYet _among_
-start bytes l e = record { made = made-fresh bytes l e; moments = λ k n. absurd n; known = λ b n. absurd n }
+  -- code and past stand so before the first call
+  start : Stands nothingYet (fresh s) []
+  unfolding nothingYet _among_
+  start = record { made = made-fresh sheet l loads; moments = λ k n. absurd n; known = λ b n. absurd n }
 
-by-the-history : (bytes : List ℕ) (l : Lists) → sheetOf bytes ≡ good l → ByTheHistory (rulesIn (stored l)) (fresh (stored l))
-unfolding ByTheHistory
-by-the-history bytes l e calls answers run =
-    let d = start bytes l e in (
-      some-past (stored l) calls answers nothingYet (fresh (stored l)) [] d run,
-      λ others f. every-past (stored l) calls answers others nothingYet (fresh (stored l)) [] d run f,
-    )
-
--- what the code of `load` and `new` promises of bytes that load
-fresh-of : (bytes : List ℕ) (m : Monitor) → Fresh bytes m → (l : Lists) × (sheetOf bytes ≡ good l) × (m ≡ fresh (stored l))
-unfolding Fresh answered
-fresh-of bytes m (κs, lent, loaded, hb, ll, z, ln) = go (sheetOf bytes) refl
-  where
-    go : (a : Answer Lists) → sheetOf bytes ≡ a → (l : Lists) × (sheetOf bytes ≡ good l) × (m ≡ fresh (stored l))
-    go (good l) e = (l, e, ln ∙ ap (λ (x : Loaded). fresh (x .sheet)) (ll ∙ ap (λ (b : List ℕ). answered (sheetOf b)) hb ∙ ap answered e))
-    go (Answer.refused n) e =
-        absurd (sheet-nonzero bytes n e (ap (λ (x : Loaded). x .number) (sym (ll ∙ ap (λ (b : List ℕ). answered (sheetOf b)) hb ∙ ap answered e)) ∙ z))
+  by-the-history : ByTheHistory sheet r (fresh s)
+  unfolding ByTheHistory
+  by-the-history calls answers run =
+      (some-past calls answers nothingYet (fresh s) [] start run, λ others f. every-past calls answers others nothingYet (fresh s) [] start run f)
 
 -- Over any sequence of calls the answers are, one by one, those of the whole history.
 pub demand-3 : Demand3
 unfolding Demand3
 demand-3 bytes m f =
     let (l, e, q) = fresh-of bytes m f in
-    (l, e, subst (ByTheHistory (rulesOf l)) (sym q) (subst (λ (r : Rules). ByTheHistory r (fresh (stored l))) (rules-stored bytes l e) (by-the-history bytes l e)))
+    (l, e, subst (ByTheHistory bytes (rulesOf l)) (sym q) (subst (λ (r : Rules). ByTheHistory bytes r (fresh (stored l))) (rules-stored bytes l e) (by-the-history bytes l e)))

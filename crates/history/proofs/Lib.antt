@@ -10,3 +10,7 @@ pub mod Asks
 pub mod Images
 pub mod Calls
 pub mod Demand
+pub mod Corollaries
+pub mod Never
+pub mod Room
+pub mod Runs

@@ -14,7 +14,7 @@ use Rattle.meaning.specs.Refusals.{Answer, good}
 use Rattle.meaning.specs.Sheet.{Sheet as Lists, sheetOf, rulesOf}
 use Rattle.meaning.specs.History.{Told, restored, refused, After, keptMost}
 use Rattle.meaning.specs.History
-use Rattle.meaning.specs.Image.{imageBytes, imageOf, save, readImage}
+use Rattle.meaning.specs.Image.{Image, imageBytes, imageOf, save, readImage}
 use Rattle.sheet.specs.declared.Loaded.{Loaded}
 use Rattle.sheet.proofs.load.Reads as load-reads
 use Rattle.monitor.specs.declared.Monitor.{Monitor}
@@ -35,20 +35,17 @@ use Rattle.history.specs.Answers.{begunTold, recordedTold, checkedTold, 
 
 -- CALLS
 
--- what a host asks; save is lent a buffer with some content, restore some bytes
+-- what a host asks; save is lent a buffer with some content, restore some bytes; after a power cut the sheet is loaded anew, and a fresh monitor made of it
 pub data Call : Type 0 where
-  begin check counts : Call
+  begin check counts anew : Call
   recording : ℕ → ℕ → Call
   saving restoring : List ℕ → Call
 
--- what the host has afterwards: what was told, and the content of the buffer that was lent to save
-pub record Heard : Type 0 where
-  pub told : Told
-  pub buffer : List ℕ
-
--- a call that was lent no buffer
-unfoldable pub heard : Told → Heard
-heard t = record { told = t; buffer = [] }
+-- what the host has afterwards: what was told; of save also the content of the buffer that it lent; of a fresh monitor nothing
+pub data Heard : Type 0 where
+  heard : Told → Heard
+  left : Told → List ℕ → Heard
+  silence : Heard
 
 -- BY THE WHOLE HISTORY
 
@@ -104,9 +101,8 @@ module _ (r : Rules) where
   Goes p (recording session event) x q = follows p (History.recordIn r (p .history) session event) x q
   Goes p check x q = follows p (History.check r (p .history)) x q
   Goes p counts x q = follows p (History.counts r (p .history)) x q
-  Goes p (saving buffer) x q =
-      (x ≡ record { told = save r (p .history) buffer .told; buffer = save r (p .history) buffer .buffer })
-      × (q ≡ afterSaving p buffer)
+  Goes p anew x q = (x ≡ silence) × (q ≡ record { history = []; moments = p .moments })
+  Goes p (saving buffer) x q = (x ≡ left (save r (p .history) buffer .told) (save r (p .history) buffer .buffer)) × (q ≡ afterSaving p buffer)
   Goes p (restoring bytes) x q = Returns p bytes x q ⊎ Refuses p bytes x q
 
   -- a sequence of calls, and what is heard, one by one
@@ -118,36 +114,9 @@ module _ (r : Rules) where
 
 -- BY THE CODE: what each call of it promises, as the prover reads the source (`Learnt`)
 
--- the code's answer hands back the monitor, and is heard as this
+-- the code's answer is heard as this, and hands back the monitor
 unfoldable pub Hands : Heard → Monitor → Heard → Monitor → Type 0
 Hands y n x m = (x ≡ y) × (m ≡ n)
-
--- the bytes that a save wrote, before those that earlier ones did
-unfoldable pub wroteToo : Saved → List ℕ → List (List ℕ) → List (List ℕ)
-wroteToo a buffer written = cond (eqb (a .number) 0) (take (a .length) buffer ∷ written) written
-
--- a call on the monitor m, where earlier saves wrote those bytes; an accepted restore is of bytes that one of them wrote
-unfoldable pub Answers : Monitor → List (List ℕ) → Call → Heard → Monitor → List (List ℕ) → Type 0
-Answers m w begin x n v = (a : Begun) × begin-reads.Learnt tt (m, tt) a (m, tt) × Hands (heard (begunTold a)) (a .monitor) x n × (v ≡ w)
-Answers m w (recording s e) x n v =
-    (a : Recorded) × record-reads.Learnt tt (m, (s, (e, tt))) a (m, (s, (e, tt))) × Hands (heard (recordedTold a)) (a .monitor) x n × (v ≡ w)
-Answers m w check x n v = (a : Checked) × check-reads.Learnt tt (m, tt) a (m, tt) × Hands (heard (checkedTold a)) (a .monitor) x n × (v ≡ w)
-Answers m w counts x n v = (a : Counted) × counts-reads.Learnt tt (m, tt) a (m, tt) × Hands (heard (countedTold a)) (a .monitor) x n × (v ≡ w)
-Answers m w (saving buffer) x n v =
-    (κs : Lfts 1) × (lent left : RefT (List ℕ)) × (a : Saved)
-    × (now lent ≡ buffer) × save-reads.Learnt κs (m, (lent, tt)) a (m, (left, tt))
-    × Hands (record { told = savedTold a; buffer = now left }) (a .monitor) x n × (v ≡ wroteToo a (now left) w)
-Answers m w (restoring bytes) x n v =
-    (κs : Lfts 1) × (lent : RefT (List ℕ)) × (a : Restored)
-    × (now lent ≡ bytes) × restore-reads.Learnt κs (m, (lent, tt)) a (m, (lent, tt))
-    × Hands (heard (restoredTold a)) (a .monitor) x n × (v ≡ w)
-    × (a .number ≡ 0 → bytes among w)
-
-unfoldable pub Run : Monitor → List (List ℕ) → List Call → List Heard → Type 0
-Run m w [] [] = Unit {0}
-Run m w [] (x ∷ xs) = ⊥
-Run m w (c ∷ cs) [] = ⊥
-Run m w (c ∷ cs) (x ∷ xs) = (n : Monitor) × (v : List (List ℕ)) × Answers m w c x n v × Run n v cs xs
 
 -- the fresh monitor of bytes that load
 unfoldable pub Fresh : List ℕ → Monitor → Type 0
@@ -156,15 +125,47 @@ Fresh bytes m =
     × (now lent ≡ bytes) × load-reads.Learnt κs (lent, tt) loaded (lent, tt) × (loaded .number ≡ 0)
     × new-reads.Learnt tt (loaded .sheet, tt) m (loaded .sheet, tt)
 
--- THE STATEMENT
+-- the bytes that a save wrote, before those that earlier ones did
+unfoldable pub wroteToo : Saved → List ℕ → List (List ℕ) → List (List ℕ)
+wroteToo a buffer written = cond (eqb (a .number) 0) (take (a .length) buffer ∷ written) written
 
--- on this monitor, whatever is called: the answers are, one by one, those of the whole history, whichever moments of saving it was put back to
-unfoldable pub ByTheHistory : Rules → Monitor → Type 0
-ByTheHistory r m =
-    (calls : List Call) (answers : List Heard) → Run m [] calls answers
-    → Whole r nothingYet calls answers
-    × ((others : List Heard) → Whole r nothingYet calls others → others ≡ answers)
+-- of a sheet's bytes, and the rules that they say
+module _ (sheet : List ℕ) (r : Rules) where
+  -- bytes that are an image were written by an earlier save; of others demand 3 does not speak
+  unfoldable pub Saved-before : List ℕ → List (List ℕ) → Type 0
+  Saved-before bytes w = (i : Image) → readImage keptMost r bytes ≡ good i → bytes among w
 
--- of every byte string that loads
+  -- a call on the monitor m, where earlier saves wrote w: what is heard, the monitor after it, what saves have written then
+  unfoldable pub Answers : Monitor → List (List ℕ) → Call → Heard → Monitor → List (List ℕ) → Type 0
+  Answers m w begin x n v = (a : Begun) × begin-reads.Learnt tt (m, tt) a (m, tt) × Hands (heard (begunTold a)) (a .monitor) x n × (v ≡ w)
+  Answers m w (recording s e) x n v =
+      (a : Recorded) × record-reads.Learnt tt (m, (s, (e, tt))) a (m, (s, (e, tt))) × Hands (heard (recordedTold a)) (a .monitor) x n × (v ≡ w)
+  Answers m w check x n v = (a : Checked) × check-reads.Learnt tt (m, tt) a (m, tt) × Hands (heard (checkedTold a)) (a .monitor) x n × (v ≡ w)
+  Answers m w counts x n v = (a : Counted) × counts-reads.Learnt tt (m, tt) a (m, tt) × Hands (heard (countedTold a)) (a .monitor) x n × (v ≡ w)
+  Answers m w anew x n v = Fresh sheet n × (x ≡ silence) × (v ≡ w)
+  Answers m w (saving buffer) x n v =
+      (κs : Lfts 1) × (lent after : RefT (List ℕ)) × (a : Saved)
+      × (now lent ≡ buffer) × save-reads.Learnt κs (m, (lent, tt)) a (m, (after, tt))
+      × Hands (left (savedTold a) (now after)) (a .monitor) x n × (v ≡ wroteToo a (now after) w)
+  Answers m w (restoring bytes) x n v =
+      (κs : Lfts 1) × (lent : RefT (List ℕ)) × (a : Restored)
+      × (now lent ≡ bytes) × restore-reads.Learnt κs (m, (lent, tt)) a (m, (lent, tt))
+      × Hands (heard (restoredTold a)) (a .monitor) x n × (v ≡ w)
+      × Saved-before bytes w
+
+  unfoldable pub Run : Monitor → List (List ℕ) → List Call → List Heard → Type 0
+  Run m w [] [] = Unit {0}
+  Run m w [] (x ∷ xs) = ⊥
+  Run m w (c ∷ cs) [] = ⊥
+  Run m w (c ∷ cs) (x ∷ xs) = (n : Monitor) × (v : List (List ℕ)) × Answers m w c x n v × Run n v cs xs
+
+  -- THE STATEMENT, on a monitor: whatever is called, the answers are, one by one, those of the whole history, whichever moments of saving it was put back to
+  unfoldable pub ByTheHistory : Monitor → Type 0
+  ByTheHistory m =
+      (calls : List Call) (answers : List Heard) → Run m [] calls answers
+      → Whole r nothingYet calls answers
+      × ((others : List Heard) → Whole r nothingYet calls others → others ≡ answers)
+
+-- and of every byte string that loads
 unfoldable pub Demand3 : Type 0
-Demand3 = (bytes : List ℕ) (m : Monitor) → Fresh bytes m → (l : Lists) × (sheetOf bytes ≡ good l) × ByTheHistory (rulesOf l) m
+Demand3 = (bytes : List ℕ) (m : Monitor) → Fresh bytes m → (l : Lists) × (sheetOf bytes ≡ good l) × ByTheHistory bytes (rulesOf l) m

@@ -1,0 +1,80 @@
+-- When begin is refused for want of room: 64 sessions stand from the first that can still take an event.
+-- Assumes nothing.
+use Prim.Native.Nat.{ℕ, _+_, _-_, _≤_, _<_}
+use mathlib.Core.Path.{_≡_, refl, sym, ap, _∙_}
+use mathlib.Core.Bool.{Bool, true, false, false≢true, cond}
+use mathlib.Core.List.{List}
+use mathlib.Core.Logic.{_↔_}
+use native.Mathlib.Omega.{arith}
+use lib.Dec.{leb, ltb}
+use lib.ListN.{length, getD}
+use lib.Seq.{getD-drop}
+use borrow.Author.Tests.{lt-leb, leb-true, leb-false, ltb-true, ltb-false}
+use Rattle.meaning.specs.Rules.{Rules}
+use Rattle.meaning.specs.Events.{closed}
+use Rattle.meaning.specs.Policy.{session}
+use Rattle.meaning.specs.History.{keptMost, totalMost, letGo, keptOf, beginFault}
+use Rattle.history.proofs.Front.{front-closed, front-open, kept-count}
+
+module _ (r : Rules) (h : List ℕ) where
+  -- While session numbers remain, begin is refused for want of room exactly when as many sessions are kept as may be.
+  pub room : length h < totalMost → (beginFault r keptMost h ≡ 27) ↔ (keptMost ≤ length (keptOf r h))
+  unfolding beginFault
+  room l = rw (lt-leb totalMost (length h) l) (go (leb keptMost (length (keptOf r h))) refl)
+    where
+      go : (b : Bool) → leb keptMost (length (keptOf r h)) ≡ b → (cond {A = ℕ} b 27 0 ≡ 27) ↔ (keptMost ≤ length (keptOf r h))
+      go true t = (λ e. leb-true keptMost (length (keptOf r h)) t, λ m. refl)
+      go false t = (λ e. absurd (omega arith), λ m. absurd (omega (arith, leb-false keptMost (length (keptOf r h)) t)))
+
+  -- Every session before the kept ones is closed.
+  pub gone-closed : (i : ℕ) → 1 ≤ i → i ≤ letGo r h → closed r (session h i) ≡ true
+  unfolding session
+  gone-closed i l m = front-closed r h (i - 1) (omega arith)
+
+  -- The first kept session can still take an event.
+  pub front-takes : letGo r h < length h → closed r (session h (letGo r h + 1)) ≡ false
+  unfolding session keptOf
+  front-takes l =
+      let place : letGo r h + 1 - 1 ≡ letGo r h + 0 = omega arith in
+      ap (λ (i : ℕ). closed r (getD h i 0)) place
+      ∙ ap (closed r) (sym (getD-drop (letGo r h) h 0 0))
+      ∙ front-open r h (omega (arith, kept-count r h))
+
+  -- session f is the first that can still take an event
+  pub record First (f : ℕ) : Type 0 where
+    pub some : 1 ≤ f
+    pub begun : f ≤ length h
+    pub takes : closed r (session h f) ≡ false
+    pub before : (i : ℕ) → 1 ≤ i → i < f → closed r (session h i) ≡ true
+
+  -- the kept sessions are those from the first that can still take an event
+  first-kept : (f : ℕ) → First f → letGo r h + 1 ≡ f
+  first-kept f w = go (leb f (letGo r h)) refl (ltb (letGo r h + 1) f) refl
+    where
+      g : ℕ
+      g = letGo r h
+
+      go : (a : Bool) → leb f g ≡ a → (b : Bool) → ltb (g + 1) f ≡ b → g + 1 ≡ f
+      go true t b u = absurd (false≢true (sym (w .takes) ∙ gone-closed f (w .some) (leb-true f g t)))
+      go false t true u =
+          let l : g + 1 < f = ltb-true (g + 1) f u in
+          absurd (false≢true (sym (front-takes (omega arith)) ∙ w .before (g + 1) (omega arith) l))
+      go false t false u = omega (arith, leb-false f g t, ltb-false (g + 1) f u)
+
+  -- So begin is refused for want of room exactly when 64 sessions stand from the first that can still take an event.
+  pub room-first : length h < totalMost → (f : ℕ) → First f → (beginFault r keptMost h ≡ 27) ↔ (f + keptMost ≤ length h + 1)
+  room-first l f w =
+      let e = first-kept f w in
+      let n = kept-count r h in
+      (λ t. let m = room l .0 t in omega arith, λ m. room l .1 (omega arith))
+
+  -- And never where every session is closed.
+  pub room-closed : length h < totalMost → ((i : ℕ) → 1 ≤ i → i ≤ length h → closed r (session h i) ≡ true) → beginFault r keptMost h ≡ 0
+  unfolding beginFault
+  room-closed l c = rw (lt-leb totalMost (length h) l, lt-leb keptMost (length (keptOf r h)) (go (ltb (letGo r h) (length h)) refl))
+    where
+      go : (b : Bool) → ltb (letGo r h) (length h) ≡ b → length (keptOf r h) < keptMost
+      go true t =
+          let m : letGo r h < length h = ltb-true (letGo r h) (length h) t in
+          absurd (false≢true (sym (front-takes m) ∙ c (letGo r h + 1) (omega arith) (omega arith)))
+      go false t = omega (arith, kept-count r h, ltb-false (letGo r h) (length h) t)
