@@ -1,7 +1,7 @@
 -- The fault of a record, one law for each way out, in the terms in which code finds it.
 -- Assumes nothing.
 use Prim.Native.Nat.{ℕ, zero, suc, _-_, _≤_}
-use mathlib.Core.Path.{_≡_, refl, sym, ap, ap₂, _∙_}
+use mathlib.Core.Path.{_≡_, refl}
 use mathlib.Core.Bool.{Bool, true, false, not}
 use mathlib.Core.List.{List, [], _∷_}
 use native.Mathlib.Omega.{arith}
@@ -9,7 +9,7 @@ use lib.Dec.{leb}
 use lib.ListN.{getD, drop, List·getD-map}
 use borrow.Author.Tests.{ne-eqb}
 use Rattle.meaning.specs.Path.{wellFormed}
-use Rattle.meaning.specs.Sheet.{Item, Kind, kinds, kindAt, kindNumber, itemOf, keyOf, disordered, soFar, inRange, rootFormed, itemFault}
+use Rattle.meaning.specs.Sheet.{Kind, kinds, kindAt, kindNumber, itemOf, keyOf, disordered, soFar, inRange, rootFormed, itemFault}
 use Rattle.records.specs.declared.Frame.{Frame}
 use Rattle.faults.specs.declared.Tally.{Tally}
 use Rattle.faults.specs.Tallies.{payloadIn, itemIn, tallied}

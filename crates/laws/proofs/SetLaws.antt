@@ -10,7 +10,7 @@ use native.Mathlib.Omega.{arith}
 use lib.Dec.{eqb, ltb}
 use borrow.Author.Tests.{ltb-true, ltb-false, eqb-true, eq-eqb}
 use lib.Pow.{pow-pos, pow-mono, pow-lt, pow-add, high, mod-pow-add}
-use lib.Bits.{bitOr, or-shr, or-step, or-lt}
+use lib.Bits.{bitOr, or-shr, or-step}
 use Rattle.meaning.specs.Sets.{mem, setOf}
 
 -- nothing is in the empty set

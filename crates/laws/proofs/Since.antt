@@ -1,14 +1,14 @@
 -- "a since b" by some j and all k: what it says, and how it follows from the session before.
 -- Assumes nothing.
 use Prim.Native.Nat.{ℕ, zero, suc, _≤_, _<_}
-use mathlib.Core.Path.{_≡_, refl, sym, ap, ap₂, _∙_}
-use mathlib.Core.Bool.{Bool, true, false, false≢true, _&&_, _||_}
+use mathlib.Core.Path.{_≡_, refl, ap, ap₂, _∙_}
+use mathlib.Core.Bool.{Bool, true, false, _&&_, _||_}
 use mathlib.Core.Logic.{_↔_, ⊎-elim}
 use native.Mathlib.Omega.{arith}
 use lib.Dec.{leb}
 use borrow.Author.Tests.{le-leb, lt-leb, leb-true, leb-false}
 use Rattle.meaning.specs.Sets.{some, every, someTo, everyTo}
-use Rattle.laws.proofs.Quantifiers.{or-cases, or-left, or-right, or-comm, and-left, and-right, and-both, and-true, some-none, some-here, some-where, every-each, every-if, some-ext}
+use Rattle.laws.proofs.Quantifiers.{or-cases, or-left, or-comm, and-left, and-right, and-both, and-true, some-none, some-here, some-where, every-each, every-if, some-ext}
 
 -- where b holds at the sessions of q, and a at those of p
 module _ (p q : ℕ → Bool) where

@@ -1,10 +1,10 @@
 -- The saved image: the bytes of a history, and what an image says.
 -- Assumes nothing.
 use Prim.Native.Nat.{ℕ, zero, suc, _+_, _-_, _*_, _/_, _%_, _^_}
-use mathlib.Core.Bool.{Bool, true, false, not, cond, _&&_, _||_}
+use mathlib.Core.Bool.{Bool, false, not, cond, _&&_, _||_}
 use mathlib.Core.List.{List, [], _∷_, _++_, map}
 use lib.Dec.{eqb, leb, ltb}
-use lib.ListN.{length, getD, take, drop}
+use lib.ListN.{length, take, drop}
 use Rattle.meaning.specs.Lists.{all}
 use Rattle.meaning.specs.Records.{headOf, marked, kindOf}
 use Rattle.meaning.specs.Rules.{Rules}

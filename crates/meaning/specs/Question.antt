@@ -1,9 +1,9 @@
 -- The path question: which event an access to a path is, under which root, and what follows the root.
 -- Assumes nothing.
 use Prim.Native.Nat.{ℕ}
-use mathlib.Core.Bool.{Bool, true, false, not, cond, _&&_, _||_}
+use mathlib.Core.Bool.{not, cond, _&&_, _||_}
 use mathlib.Core.List.{List, [], _∷_}
-use lib.Dec.{eqb, leb, ltb}
+use lib.Dec.{eqb, ltb}
 use lib.ListN.{length}
 use Rattle.meaning.specs.Refusals.{Answer, good, refused, _gives_else_}
 use Rattle.meaning.specs.Path.{wellFormed, covers, restAfter}

@@ -9,7 +9,7 @@ use Rattle.meaning.specs.Rules.{Rules}
 use Rattle.meaning.specs.Refusals.{Answer, good}
 use Rattle.meaning.specs.Sheet.{Sheet, sheetOf, rulesOf}
 use Rattle.meaning.specs.Question.{Found, question}
-use Rattle.meaning.specs.History.{Told, After, keptMost}
+use Rattle.meaning.specs.History.{Told, keptMost}
 use Rattle.meaning.specs.History
 use Rattle.meaning.specs.Lists
 use Rattle.meaning.specs.Sets

@@ -1,14 +1,15 @@
 -- States that pass 20, and what a session more does to them.
 -- Assumes nothing.
-use Prim.Native.Nat.{ℕ, _+_, _-_, _≤_, _<_}
-use mathlib.Core.Path.{_≡_, refl, sym, ap, _∙_}
-use mathlib.Core.Bool.{Bool, true, false, not, cond, _||_}
+use Prim.Native.Nat.{ℕ, _+_, _≤_, _<_}
+use mathlib.Core.Path.{_≡_, refl}
+use mathlib.Core.Bool.{Bool, true, false, not, _||_}
 use native.Mathlib.Omega.{arith}
 use lib.Dec.{eqb, leb, ltb}
 use lib.ListN.{getD}
-use borrow.Author.Tests.{ltb-false, leb-false, eqb-true, not-false, le-leb, lt-leb, eq-eqb, ne-eqb}
+use borrow.Author.Tests.{ltb-false, leb-false, eqb-true, not-false}
 use Rattle.laws.proofs.Quantifiers.{or-false}
 use Rattle.laws.proofs.Accepted.{passes}
+use Rattle.rows.proofs.Arms.{few-nodes}
 use Rattle.meaning.specs.Sets.{apart, within}
 use Rattle.meaning.specs.Events.{possible, supported}
 use Rattle.sheet.specs.declared.Sheet.{Sheet}
@@ -27,6 +28,14 @@ fit-of m e =
       few = ltb-false 64 (m .kept) (q .0);
       counted = eqb-true (m .gone + m .kept) (m .total) (not-false (eqb (m .gone + m .kept) (m .total)) (q .1));
     }
+
+-- more nodes than the limit are not sound
+pub too-many-nodes : (s : Sheet) → 64 < s .nodes → sound s ≡ false
+too-many-nodes s l = go (sound s) refl
+  where
+    go : (b : Bool) → sound s ≡ b → sound s ≡ false
+    go true e = let h = few-nodes s e in absurd (omega arith)
+    go false e = e
 
 pub fit-opened : (m : Monitor) → Fit m → m .kept < 64 → Fit (opened m)
 unfolding opened

@@ -83,6 +83,9 @@ impl Monitor {
             return true;
         }
         let s = self.sheet;
+        if Self::NODES < s.nodes {
+            return true;
+        }
         !s.is_sound()
     }
 

@@ -5,7 +5,9 @@ use mathlib.Core.Path.{_≡_, refl, sym, ap, _∙_, subst}
 use mathlib.Core.Bool.{Bool, true, false, cond}
 use mathlib.Core.List.{List, []}
 use native.Mathlib.Omega.{arith}
-use lib.ListN.{length, take, drop}
+use lib.ListN.{length, take, drop, length-drop}
+use lib.Seq.{length-take-le}
+use denote.Ref.{RefT, now}
 use borrow.Author.Tests.{eq-eqb, ne-eqb, lt-ltb, le-ltb, le-leb, lt-leb}
 use Rattle.meaning.specs.Path.{wellFormed, restAfter}
 use Rattle.meaning.specs.Refusals.{Answer, good, refused}
@@ -19,7 +21,7 @@ use Rattle.path.specs.declared.Span.{Span}
 use Rattle.path.specs.declared.Event.{Event}
 use Rattle.path.specs.declared.Found.{Found}
 use Rattle.path.specs.declared.Found.the-variants.{Under, Refused}
-use Rattle.path.specs.Search.{Accepted, Within, Best, matchAt, answer, Answers, eventOf, rootOf, restOf}
+use Rattle.path.specs.Search.{Accepted, Within, Best, matchAt, answer, Answers, PartAt, eventOf, rootOf, restOf}
 use Rattle.laws.proofs.Accepted.{sheet-nonzero}
 use Rattle.path.proofs.Covering.{here-length}
 
@@ -116,6 +118,12 @@ module _ (bytes : List ℕ) (access : ℕ) (path : List ℕ) (f : Found) (a : An
       let w : b .at + b .len - b .at ≡ b .len = omega arith in
       ap (λ (n : ℕ). take n (drop (b .at) bytes)) w ∙ ap rootOf (as-found (Under b) e)
 
+  pub root-length : (b : Span) → f ≡ Under b → b .len ≡ length (rootOf (question bytes access path))
+  unfolding answer rootOf
+  root-length b e =
+      let w = a .spans b e .0 in
+      sym (length-take-le (b .len) (drop (b .at) bytes) (rw (length-drop (b .at) bytes) (omega arith))) ∙ ap length (ap rootOf (as-found (Under b) e))
+
   pub root-refused : (n : ℕ) → f ≡ Refused n → [] ≡ rootOf (question bytes access path)
   unfolding answer rootOf
   root-refused n e = ap rootOf (as-found (Refused n) e)
@@ -127,3 +135,13 @@ module _ (bytes : List ℕ) (access : ℕ) (path : List ℕ) (f : Found) (a : An
   pub rest-refused : (n : ℕ) → f ≡ Refused n → [] ≡ restOf (question bytes access path)
   unfolding answer restOf
   rest-refused n e = ap restOf (as-found (Refused n) e)
+
+-- WHERE THE PARTS LIE
+
+-- a part that begins k bytes behind the front, with the next n bytes
+pub part-is :
+    (k n : ℕ) (part whole : RefT (List ℕ)) → part .ptr .0 ≡ whole .ptr .0 → part .ptr .1 ≡ k + whole .ptr .1 → k + n ≤ length (now whole)
+    → now part ≡ take n (drop k (now whole)) → PartAt k part whole
+part-is k n part whole b p l e =
+    let size : length (now part) ≡ n = ap length e ∙ length-take-le n (drop k (now whole)) (rw (length-drop k (now whole)) (omega arith)) in
+    record { block = b; place = p; inside = rw size l; content = e ∙ ap (λ (i : ℕ). take i (drop k (now whole))) (sym size) }

@@ -1,7 +1,7 @@
 -- The search: the best so far is the longest covering root among those read, and the rest of the sheet is still to be walked.
 -- Assumes nothing.
 use Prim.Native.Nat.{ℕ, zero, suc, _+_, _-_, _≤_, _<_}
-use mathlib.Core.Path.{_≡_, refl, sym, ap, ap₂, _∙_, subst}
+use mathlib.Core.Path.{_≡_, refl, sym, ap, _∙_, subst}
 use mathlib.Core.Bool.{Bool, true, false, false≢true, cond, _&&_}
 use mathlib.Core.List.{List, [], _∷_, _++_}
 use native.Mathlib.Nat.{add-zero}
@@ -11,8 +11,8 @@ use lib.ListN.{length, getD, take, drop, drop-of-length-le}
 use lib.Seq.{drop-cons, getD-take, getD-drop, drop-drop}
 use borrow.Author.Tests.{eq-eqb, ne-eqb, lt-ltb, le-ltb, ltb-true, ltb-false, leb-true, leb-false, eqb-true, eqb-false}
 use Rattle.meaning.specs.Path.{edge, covers}
-use Rattle.meaning.specs.Refusals.{Answer, good, refused}
-use Rattle.meaning.specs.Sheet.{Root, Item, count, cause, conflict, root, node, Reading, nothingRead, framed, behind, payload, itemOf, itemAt, noted, afterItem, fault, walk, sheetOf}
+use Rattle.meaning.specs.Refusals.{good}
+use Rattle.meaning.specs.Sheet.{Root, Item, root, Reading, nothingRead, framed, behind, itemOf, itemAt, noted, afterItem, fault, walk, sheetOf}
 use Rattle.meaning.specs.Sheet
 use Rattle.meaning.specs.Question.{Match, under, nowhere, longer, better, longest}
 use Rattle.laws.proofs.Quantifiers.{and-left, and-right, and-both}
@@ -21,7 +21,7 @@ use Rattle.records.specs.declared.Frame.{Frame}
 use Rattle.records.specs.declared.Record.the-variants.{Whole}
 use Rattle.records.specs.Frames.{frameAt, recordAt}
 use Rattle.records.proofs.Framing.{whole-says}
-use Rattle.faults.specs.Tallies.{Inside, payloadIn, itemIn}
+use Rattle.faults.specs.Tallies.{payloadIn, itemIn}
 use Rattle.faults.proofs.Framed.{frame-known, frame-inside, frame-next, frame-item, frame-behind, frame-root}
 use Rattle.path.specs.declared.Span.{Span}
 use Rattle.path.specs.Search.{RootFrame, worthIt, matchAt, Within, Best, Accepted}

@@ -1,11 +1,12 @@
 -- What the search for a root finds, in the sheet's own bytes, and what the three questions answer.
 -- Assumes nothing.
-use Prim.Native.Nat.{ℕ, _+_, _-_, _≤_, _<_}
+use Prim.Native.Nat.{ℕ, _+_, _-_, _≤_}
 use mathlib.Core.Path.{_≡_}
 use mathlib.Core.Bool.{Bool, cond, _&&_}
 use mathlib.Core.List.{List, []}
 use lib.Dec.{eqb, leb, ltb}
 use lib.ListN.{length, getD, take, drop}
+use denote.Ref.{RefT, now}
 use Rattle.meaning.specs.Refusals.{Answer, good, refused}
 use Rattle.meaning.specs.Sheet.{sheetOf}
 use Rattle.meaning.specs.Sheet
@@ -52,6 +53,20 @@ answer bytes path (Refused n) = refused n
 pub record Answers (bytes : List ℕ) (access : ℕ) (path : List ℕ) (f : Found) : Type 0 where
   pub is : answer bytes path f ≡ question bytes access path
   pub spans : (b : Span) → f ≡ Under b → Within bytes path b
+
+-- WHERE THE PARTS LIE
+
+-- one lent slice is the part of another that begins k bytes behind its front
+pub record PartAt (k : ℕ) (part whole : RefT (List ℕ)) : Type 0 where
+  pub block : part .ptr .0 ≡ whole .ptr .0
+  pub place : part .ptr .1 ≡ k + whole .ptr .1
+  pub inside : k + length (now part) ≤ length (now whole)
+  pub content : now part ≡ take (length (now part)) (drop k (now whole))
+
+-- a part of the lent bytes
+pub record PartOf (part whole : RefT (List ℕ)) : Type 0 where
+  pub begins : ℕ
+  pub part-at : PartAt begins part whole
 
 -- THE THREE QUESTIONS: the number and the event, 0 where the other is not; the root; the rest, both empty on refusal
 

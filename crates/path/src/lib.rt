@@ -4,7 +4,7 @@ ghost use Prim.Native.Nat.{_+_, _≤_};
 ghost use lib.ListN.{length, drop};
 ghost use Rattle.meaning.specs.Path.{edge};
 ghost use Rattle.meaning.specs.Question.{question};
-ghost use Rattle.path.specs.Search.{RootFrame, Accepted, Best, Answers, worthIt, eventOf, rootOf, restOf};
+ghost use Rattle.path.specs.Search.{RootFrame, Accepted, Best, Answers, worthIt, PartAt, PartOf, eventOf, rootOf, restOf};
 use records::Frame;
 use records::Record;
 use sheet::load;
@@ -148,7 +148,7 @@ pub fn event_of(sheet: &[u8], access: u32, path: &[u8]) -> Event
 
 // The root that the path lies under, as it stands in the sheet; empty on refusal.
 pub fn root_of<'s, 'p>(sheet: &'s [u8], access: u32, path: &'p [u8]) -> &'s [u8]
-    ensures { λ r. ⌜ now r ≡ rootOf (question (now (sheet .entry)) access (now (path .entry))) ⌝ }
+    ensures { λ r. ⌜ (now r ≡ rootOf (question (now (sheet .entry)) access (now (path .entry)))) × PartOf r (sheet .entry) ⌝ }
 {
     let Found::Under(b) = judge(sheet, access, path) else {
         return &sheet[0..0];
@@ -161,14 +161,14 @@ pub fn root_of<'s, 'p>(sheet: &'s [u8], access: u32, path: &'p [u8]) -> &'s [u8]
 // What follows a root of n bytes.
 fn after<'p>(path: &'p [u8], n: usize) -> &'p [u8]
     requires { ⌜ n ≤ length (now path) ⌝ }
-    ensures { λ r. ⌜ now r ≡ drop n (now (path .entry)) ⌝ }
+    ensures { λ r. ⌜ (now r ≡ drop n (now (path .entry))) × PartAt n r (path .entry) ⌝ }
 {
     &path[n..]
 }
 
 // What follows the root in the path; empty on refusal.
 pub fn rest_of<'s, 'p>(sheet: &'s [u8], access: u32, path: &'p [u8]) -> &'p [u8]
-    ensures { λ r. ⌜ now r ≡ restOf (question (now (sheet .entry)) access (now (path .entry))) ⌝ }
+    ensures { λ r. ⌜ (now r ≡ restOf (question (now (sheet .entry)) access (now (path .entry)))) × PartAt (length (rootOf (question (now (sheet .entry)) access (now (path .entry))))) r (path .entry) ⌝ }
 {
     let Found::Under(b) = judge(sheet, access, path) else {
         return &path[0..0];

@@ -1,5 +1,5 @@
 -- Any two answers allowed for one input coincide: shown of every call of a host, by name, from what its code promises (`Learnt`, as the prover
--- reads the source). Where a buffer is lent, its final content too. Two parts of lent bytes coincide in their content; docs/DECISIONS.md says why not in their place.
+-- reads the source). Where a buffer is lent, its final content too. Two rests of a path coincide in their place too; two roots in their content: docs/DECISIONS.md.
 -- Assumes nothing.
 use Prim.Native.Nat.{ℕ}
 use mathlib.Core.Path.{_≡_, sym, _∙_}
@@ -55,12 +55,13 @@ module _ (κs : Lfts 2) (sheet : RefT (List ℕ)) (access : ℕ) (path : RefT (L
   pub root-of-one :
       (a b : RefT (List ℕ)) → root-of-reads.Learnt κs (sheet, (access, (path, tt))) a (sheet, (access, (path, tt)))
       → root-of-reads.Learnt κs (sheet, (access, (path, tt))) b (sheet, (access, (path, tt))) → now a ≡ now b
-  root-of-one a b p q = p ∙ sym q
+  root-of-one a b p q = p .0 ∙ sym (q .0)
 
   pub rest-of-one :
       (a b : RefT (List ℕ)) → rest-of-reads.Learnt κs (sheet, (access, (path, tt))) a (sheet, (access, (path, tt)))
-      → rest-of-reads.Learnt κs (sheet, (access, (path, tt))) b (sheet, (access, (path, tt))) → now a ≡ now b
-  rest-of-one a b p q = p ∙ sym q
+      → rest-of-reads.Learnt κs (sheet, (access, (path, tt))) b (sheet, (access, (path, tt)))
+      → (now a ≡ now b) × (a .ptr .0 ≡ b .ptr .0) × (a .ptr .1 ≡ b .ptr .1)
+  rest-of-one a b p q = (p .0 ∙ sym (q .0), p .1 .block ∙ sym (q .1 .block), p .1 .place ∙ sym (q .1 .place))
 
 -- THE MONITOR
 

@@ -1,19 +1,20 @@
 -- A record is framed exactly when each of the code's tests passes: the laws that its tests need, one for each way out.
 -- Assumes nothing.
-use Prim.Native.Nat.{ℕ, zero, suc, _+_, _-_, _≤_, _<_}
+use Prim.Native.Nat.{ℕ, _+_, _-_, _≤_, _<_}
 use mathlib.Core.Path.{_≡_, refl, sym, ap, ap₂, _∙_}
 use mathlib.Core.Bool.{Bool, true, false, not, cond, _&&_, _||_}
-use mathlib.Core.List.{List, [], _∷_, map}
+use mathlib.Core.List.{List, [], _∷_}
 use native.Mathlib.Nat.{add-zero}
 use native.Mathlib.Omega.{arith}
-use lib.Dec.{eqb, leb, ltb}
-use lib.ListN.{length, getD, take, drop, length-drop, length-take, List·getD-map}
+use lib.Dec.{eqb, leb}
+use lib.ListN.{length, getD, take, drop, length-drop, List·getD-map}
 use lib.Seq.{getD-drop, drop-drop}
 use borrow.Author.Tests.{lt-ltb, le-ltb, le-leb, lt-leb, eq-eqb, ne-eqb, eqb-true, eqb-false}
 use Rattle.meaning.specs.Records.{marked, kindOf}
 use Rattle.records.specs.declared.Record.the-variants.{Whole, Broken}
 use Rattle.records.specs.declared.Frame.{Frame}
-use Rattle.records.specs.Frames.{frameAt, recordAt}
+use Rattle.meaning.specs.Refusals.{good, refused}
+use Rattle.records.specs.Frames.{frameAt, framedAt, answer, toldAs, recordAt}
 use Rattle.meaning.specs.Sheet.{Kind, NodeKind, kinds, kindAt, knownKind, nodeKinds, nodeKind, nodeFits, payload, whole, fits, framed}
 
 -- NODES
@@ -157,27 +158,27 @@ module _ (s : List ℕ) (at : ℕ) where
 -- WHAT STANDS AT A PLACE
 
 pub breaks : (s : List ℕ) (at : ℕ) → framed (drop at s) ≡ false → Broken ≡ recordAt s at
-unfolding recordAt
+unfolding recordAt toldAs framedAt
 breaks s at e = rw e
 
 pub stands : (s : List ℕ) (at : ℕ) → framed (drop at s) ≡ true → Whole (frameAt s at) ≡ recordAt s at
-unfolding recordAt
+unfolding recordAt toldAs framedAt
 stands s at e = rw e
 
 -- and back
 pub broken-says : (s : List ℕ) (at : ℕ) → recordAt s at ≡ Broken → framed (drop at s) ≡ false
-unfolding recordAt
+unfolding recordAt toldAs framedAt
 broken-says s at e = go (framed (drop at s)) e
   where
-    go : (t : Bool) → cond t (Whole (frameAt s at)) Broken ≡ Broken → t ≡ false
+    go : (t : Bool) → toldAs (cond t (good (frameAt s at)) (refused 11)) ≡ Broken → t ≡ false
     go true e = absurd (let z : _≡_ {A = ℕ} 0 1 = cc in omega arith)
     go false e = refl
 
 pub whole-says : (s : List ℕ) (at : ℕ) (f : Frame) → recordAt s at ≡ Whole f → (framed (drop at s) ≡ true) × (f ≡ frameAt s at)
-unfolding recordAt
+unfolding recordAt toldAs framedAt
 whole-says s at f e = go (framed (drop at s)) e
   where
-    go : (t : Bool) → cond t (Whole (frameAt s at)) Broken ≡ Whole f → (t ≡ true) × (f ≡ frameAt s at)
+    go : (t : Bool) → toldAs (cond t (good (frameAt s at)) (refused 11)) ≡ Whole f → (t ≡ true) × (f ≡ frameAt s at)
     go true e = (refl, cc)
     go false e = absurd (let z : _≡_ {A = ℕ} 0 1 = cc in omega arith)
 
@@ -187,3 +188,12 @@ pub frame-bytes :
     → frameAt s at ≡ record { kind = getD s (at + 2) 0; start = at + 4; len = getD s (at + 3) 0; next = at + 4 + getD s (at + 3) 0 }
 unfolding frameAt kindOf
 frame-bytes s at = rw (getD-drop at s 2 0, getD-drop at s 3 0)
+
+-- The reader's answer says just that.
+pub answer-is : (s : List ℕ) (at : ℕ) → answer (recordAt s at) ≡ framedAt s at
+unfolding recordAt toldAs framedAt answer
+answer-is s at = go (framed (drop at s))
+  where
+    go : (b : Bool) → answer (toldAs (cond b (good (frameAt s at)) (refused 11))) ≡ cond b (good (frameAt s at)) (refused 11)
+    go true = refl
+    go false = refl

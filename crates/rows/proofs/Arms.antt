@@ -1,7 +1,7 @@
 -- The arms of a node: what its kind says of its operands. And a row, as it grows bit by bit.
 -- Assumes nothing.
 use Prim.Native.Nat.{ℕ, zero, suc, _+_, _*_, _%_, _^_, _≤_, _<_}
-use mathlib.Core.Path.{_≡_, refl, sym, ap, _∙_, subst}
+use mathlib.Core.Path.{_≡_, ap, _∙_, subst}
 use mathlib.Core.Bool.{Bool, true, false, cond, _&&_}
 use native.Mathlib.Nat.{one-mul, zero-mul, mod-eq-of-lt, lt-of-lt-of-le}
 use native.Mathlib.Omega.{arith}
@@ -10,7 +10,7 @@ use lib.ListN.{getD}
 use lib.Pow.{pow-lt, pow-mono, pow-pos}
 use borrow.Author.Tests.{ltb-true, leb-true}
 use Rattle.meaning.specs.Sets.{every}
-use Rattle.meaning.specs.Rules.{Node, Rules, nodeInRange}
+use Rattle.meaning.specs.Rules.{Rules, nodeInRange}
 use Rattle.meaning.specs.Sheet.{nodeKinds, nodeKind, nodeOf}
 use Rattle.meaning.specs.Steps.{nodeBit, rowTo}
 use Rattle.laws.proofs.Quantifiers.{and-left, and-right, every-each}

@@ -1,12 +1,11 @@
 -- What is kept of a sheet's lists after one record more is what the record adds to what was kept.
 -- Assumes nothing.
 use Prim.Native.Nat.{ℕ, zero, suc, _+_, _^_, _≤_, _<_}
-use mathlib.Core.Path.{_≡_, refl, sym, ap, ap₂, _∙_, subst}
-use mathlib.Core.Bool.{Bool, true, false, cond, _&&_, _||_}
+use mathlib.Core.Path.{_≡_, refl, sym, ap, ap₂, _∙_}
+use mathlib.Core.Bool.{Bool, true, false, cond}
 use mathlib.Core.List.{List, [], _∷_, _++_}
 use mathlib.Core.Logic.{⊎-elim}
-use native.Mathlib.Nat.{le-of-suc-le-suc, eq-or-lt-of-le}
-use native.Mathlib.Numerals.{add-one}
+use native.Mathlib.Nat.{eq-or-lt-of-le}
 use native.Mathlib.Omega.{arith}
 use lib.Bits.{bitOr}
 use lib.Dec.{eqb, ltb}
@@ -16,7 +15,7 @@ use borrow.Author.Tests.{eqb-true, eqb-false, eq-eqb, ne-eqb, ltb-true, ltb-fals
 use Rattle.meaning.specs.Sets.{setOf}
 use Rattle.meaning.specs.Rules.{Node}
 use Rattle.meaning.specs.Events.{somePair, chain, neededBy, conflictingWith}
-use Rattle.meaning.specs.Sheet.{Item, count, cause, conflict, root, node, nodeKinds, nodeKind, nodeFits, nodeOf, itemOf, Reading, nothingRead, noted, afterItem, tally, pairInRange, inRange, kindNumber, keyOf, itemFault}
+use Rattle.meaning.specs.Sheet.{count, cause, conflict, root, node, nodeKinds, nodeKind, nodeFits, nodeOf, itemOf, Reading, nothingRead, noted, afterItem, tally, pairInRange, inRange, kindNumber, keyOf, itemFault}
 use Rattle.meaning.specs.Sheet
 use Rattle.laws.proofs.Quantifiers.{and-left, and-right}
 use Rattle.laws.proofs.SetLaws.{setOf-ext}

@@ -1,31 +1,28 @@
 -- The loader's walk: what was kept and tallied stands for the lists so far, and what is left of the sheet decides the rest.
 -- Assumes nothing.
 use Prim.Native.Nat.{ℕ, zero, suc, _+_, _-_, _≤_, _<_}
-use mathlib.Core.Path.{_≡_, refl, sym, ap, ap₂, _∙_, subst}
-use mathlib.Core.Bool.{Bool, true, false, not, cond, _&&_, _||_}
-use mathlib.Core.List.{List, [], _∷_, _++_}
+use mathlib.Core.Path.{_≡_, refl, sym, ap, ap₂, _∙_}
+use mathlib.Core.Bool.{Bool, true, false, cond}
+use mathlib.Core.List.{List, [], _∷_}
 use native.Mathlib.Nat.{add-zero}
 use native.Mathlib.Omega.{arith}
-use lib.Dec.{eqb, leb, ltb}
-use lib.ListN.{length, getD, take, drop, length-append, length-drop, drop-of-length-le}
-use lib.Seq.{drop-cons, drop-drop}
-use borrow.Author.Tests.{eq-eqb, ne-eqb, le-ltb, lt-ltb, leb-true, eqb-true}
+use lib.Dec.{eqb}
+use lib.ListN.{length, drop, length-append, length-drop, drop-of-length-le}
+use borrow.Author.Tests.{ne-eqb, le-ltb, lt-ltb}
 use Rattle.meaning.specs.Lists.{isEmpty}
 use Rattle.meaning.specs.Sets.{setOf}
 use Rattle.meaning.specs.Events.{neededBy, conflictingWith}
-use Rattle.meaning.specs.Refusals.{Answer, good, refused}
-use Rattle.meaning.specs.Records.{marked, kindOf}
+use Rattle.meaning.specs.Refusals.{good, refused}
 use Rattle.meaning.specs.Rules.{Node}
-use Rattle.meaning.specs.Sheet.{Item, Reading, nothingRead, kinds, kindAt, knownKind, nodeFits, payload, behind, whole, fits, framed, itemOf, itemAt, keyOf, kindNumber, noted, afterItem, tally, itemFault, fault, walk, withNodes, sheetOf}
+use Rattle.meaning.specs.Sheet.{Item, Reading, nothingRead, behind, framed, itemOf, itemAt, keyOf, kindNumber, noted, afterItem, tally, itemFault, fault, walk, withNodes, sheetOf}
 use Rattle.meaning.specs.Sheet
-use Rattle.laws.proofs.Quantifiers.{and-left, and-right}
 use Rattle.laws.proofs.Accepted.{Lawful, lawful-start, lawful-after, walk-end}
 use Rattle.records.specs.declared.Frame.{Frame}
 use Rattle.records.specs.Frames.{frameAt}
 use Rattle.faults.specs.declared.Tally.{Tally}
 use Rattle.faults.specs.Tallies.{Inside, payloadIn, itemIn, tallied}
 use Rattle.faults.proofs.Order.{kind-number}
-use Rattle.faults.proofs.Framed.{frame-at, frame-known, frame-inside, frame-next, frame-payload, frame-item, frame-behind, frame-node}
+use Rattle.faults.proofs.Framed.{frame-at, frame-known, frame-inside, frame-next, frame-item, frame-behind, frame-node}
 use Rattle.sheet.specs.declared.Sheet.{Sheet}
 use Rattle.sheet.specs.declared.Loaded.{Loaded}
 use Rattle.sheet.specs.Loads.{tableOf, kindOfNode, leftOf, rightOf, nothing, stored, answered, putRecord, counted, noTally}

@@ -1,26 +1,26 @@
 -- What is loaded of an accepted sheet is sound.
 -- Assumes nothing.
-use Prim.Native.Nat.{ℕ, zero, suc, _^_, _≤_, _<_}
+use Prim.Native.Nat.{ℕ, _^_, _≤_, _<_}
 use mathlib.Core.Path.{_≡_, refl, sym, ap, _∙_, subst}
 use mathlib.Core.Bool.{Bool, true, false, false≢true, not, _&&_, _||_}
 use mathlib.Core.List.{List, [], _∷_}
 use mathlib.Core.Logic.{⊎-elim}
 use native.Mathlib.Omega.{arith}
-use lib.Dec.{eqb, leb, ltb}
+use lib.Dec.{eqb}
 use lib.ListN.{length, getD}
 use borrow.Author.Tests.{le-leb, lt-ltb, eqb-true}
 use Rattle.meaning.specs.Lists.{isEmpty}
-use Rattle.meaning.specs.Sets.{every, mem, setOf}
-use Rattle.meaning.specs.Rules.{Node, nodeInRange}
+use Rattle.meaning.specs.Sets.{mem, setOf}
+use Rattle.meaning.specs.Rules.{Node}
 use Rattle.meaning.specs.Events.{somePair, chain, neededBy, conflictingWith}
-use Rattle.meaning.specs.Refusals.{Answer, good}
+use Rattle.meaning.specs.Refusals.{good}
 use Rattle.meaning.specs.Sheet.{Reading, nothingRead, nodeKinds, nodeKind, nodeOf, sheetOf}
 use Rattle.meaning.specs.Sheet
-use Rattle.laws.proofs.Quantifiers.{or-cases, and-left, and-right, and-both, every-if}
+use Rattle.laws.proofs.Quantifiers.{or-cases, and-left, and-right, every-if}
 use Rattle.laws.proofs.SetLaws.{mem-of, setOf-lt, setOf-bound}
-use Rattle.laws.proofs.Chains.{Upward, some-pair-where, chain-sound, chain-ends}
+use Rattle.laws.proofs.Chains.{some-pair-where, chain-sound, chain-ends}
 use Rattle.laws.proofs.Accepted.{Lawful, accepted, accepted-walk}
-use Rattle.sheet.specs.Loads.{tableOf, kindOfNode, leftOf, rightOf, stored}
+use Rattle.sheet.specs.Loads.{kindOfNode, leftOf, rightOf, stored}
 use Rattle.sheet.specs.Sound.{soundEvent, soundNode, sound}
 use Rattle.sheet.proofs.Tables.{table-at}
 

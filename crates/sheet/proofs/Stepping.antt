@@ -4,7 +4,6 @@ use Prim.Native.Nat.{ℕ, _≤_, _<_}
 use mathlib.Core.Path.{_≡_, sym, ap, _∙_, subst}
 use mathlib.Core.Bool.{true}
 use mathlib.Core.List.{List}
-use native.Mathlib.Omega.{arith}
 use lib.ListN.{length, drop}
 use Rattle.meaning.specs.Refusals.{refused}
 use Rattle.meaning.specs.Sheet.{itemOf, nothingRead, framed, itemFault, tally, walk}

@@ -3,7 +3,6 @@
 use native.Mathlib.Omega.{arith}
 use Rattle.meaning.specs.Sets.{added}
 use Rattle.laws.proofs.SetLaws.{one-shl}
-use borrow.Author.Needs.{needs}
 use Rattle.events.proofs.added.Statement.{statement}
 use Rattle.events.proofs.added.Tie as tie
 

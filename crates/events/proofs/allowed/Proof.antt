@@ -7,7 +7,7 @@ use native.Mathlib.Omega.{arith}
 use native.Mathlib.Numerals.{add-one}
 use borrow.Author.Needs.{needs}
 use Rattle.meaning.specs.Sets.{every, mem}
-use Rattle.meaning.specs.Events.{possible, supported, addable, allowed, closed}
+use Rattle.meaning.specs.Events.{possible, supported, allowed}
 use Rattle.events.specs.Tables.{rulesOver}
 use Rattle.events.proofs.allowed.Statement.{statement}
 use Rattle.events.proofs.allowed.Tie as tie

@@ -2,12 +2,12 @@
 -- Assumes nothing.
 use Prim.Native.Nat.{ℕ, _≤_, _-_}
 use mathlib.Core.Path.{_≡_, refl, ap, _∙_}
-use mathlib.Core.Bool.{not, _&&_, _||_}
+use mathlib.Core.Bool.{not}
 use native.Mathlib.Omega.{arith}
 use native.Mathlib.Numerals.{add-one}
 use borrow.Author.Needs.{needs}
-use Rattle.meaning.specs.Sets.{every, mem}
-use Rattle.meaning.specs.Events.{possible, supported, addable, allowed, closed}
+use Rattle.meaning.specs.Sets.{every}
+use Rattle.meaning.specs.Events.{possible, supported, addable, closed}
 use Rattle.events.specs.Tables.{rulesOver}
 use Rattle.events.proofs.closed.Statement.{statement}
 use Rattle.events.proofs.closed.Tie as tie

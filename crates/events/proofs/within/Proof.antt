@@ -1,11 +1,10 @@
 -- `events::within` meets its contract. The loop's invariant: the events below e pass exactly if `ok` says so.
 -- Assumes nothing.
-use Prim.Native.Nat.{ℕ, _≤_, _-_}
-use mathlib.Core.Path.{_≡_, refl, ap, _∙_}
-use mathlib.Core.Bool.{not, _&&_, _||_}
+use Prim.Native.Nat.{_≤_, _-_}
+use mathlib.Core.Path.{_≡_, refl}
+use mathlib.Core.Bool.{not, _||_}
 use native.Mathlib.Omega.{arith}
 use native.Mathlib.Numerals.{add-one}
-use borrow.Author.Needs.{needs}
 use Rattle.meaning.specs.Sets.{every, mem, within}
 use Rattle.events.proofs.within.Statement.{statement}
 use Rattle.events.proofs.within.Tie as tie

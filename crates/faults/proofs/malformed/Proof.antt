@@ -1,6 +1,6 @@
 -- `faults::malformed` meets its contract.
 -- Assumes nothing.
-use mathlib.Core.Path.{_≡_, sym, ap, _∙_}
+use mathlib.Core.Path.{sym, ap, _∙_}
 use mathlib.Core.Bool.{not}
 use Rattle.meaning.specs.Path.{wellFormed}
 use Rattle.faults.proofs.Judge.{root-formed, no-root}

@@ -2,13 +2,13 @@
 -- Assumes nothing.
 use Prim.Native.Nat.{_+_, _≤_, _-_}
 use mathlib.Core.Path.{_≡_, sym, ap, _∙_}
-use mathlib.Core.Bool.{Bool, not, _&&_}
+use mathlib.Core.Bool.{Bool, _&&_}
 use native.Mathlib.Omega.{arith}
-use lib.ListN.{length, drop, length-drop}
+use lib.ListN.{length}
 use borrow.Author.Needs.{needs}
 use borrow.Author.Tests.{not-true, not-false}
 use Rattle.meaning.specs.Path.{wellFormed}
-use Rattle.form.specs.Segments.{upToSlash, restOk}
+use Rattle.form.specs.Segments.{restOk}
 use Rattle.form.proofs.Cuts.{empty-malformed, slash-first, rest-start, rest-after, rest-end, end-le}
 use Rattle.form.proofs.well_formed.Statement.{statement}
 use Rattle.form.proofs.well_formed.Tie as tie

@@ -1,6 +1,5 @@
 -- `path::event_of` meets its contract.
 -- Assumes nothing.
-use native.Mathlib.Omega.{arith}
 use Rattle.path.proofs.Asking.{event-under, event-refused}
 use borrow.Author.Needs.{needs}
 use Rattle.path.proofs.event_of.Statement.{statement}

@@ -1,7 +1,7 @@
 -- `path::judge` meets its contract: each way out is a law of its own.
 -- Assumes nothing.
 use borrow.Author.Tests.{not-true, not-false}
-use mathlib.Core.Path.{_≡_, sym, _∙_}
+use mathlib.Core.Path.{sym, _∙_}
 use Rattle.path.proofs.Asking.{sheet-refused, sheet-good, asks-access, asks-empty, asks-long, asks-form, asks-nowhere, asks-under}
 use borrow.Author.Needs.{needs}
 use Rattle.path.proofs.judge.Statement.{statement}

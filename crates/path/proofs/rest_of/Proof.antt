@@ -1,8 +1,8 @@
 -- `path::rest_of` meets its contract.
 -- Assumes nothing.
+use mathlib.Core.Path.{refl, sym, _∙_}
 use native.Mathlib.Omega.{arith}
-use Rattle.path.proofs.Asking.{rest-under, rest-refused}
-use mathlib.Core.Path.{_∙_}
+use Rattle.path.proofs.Asking.{root-refused, root-length, rest-under, rest-refused, part-is}
 use borrow.Author.Needs.{needs}
 use Rattle.path.proofs.rest_of.Statement.{statement}
 use Rattle.path.proofs.rest_of.Tie as tie
@@ -26,13 +26,13 @@ part-result-end : tie.Need-part-result-end
 part-result-end c = search needs
 
 returns : tie.Need-returns
-returns c = rest-refused (c .before .before .before .before .before .before .args .sheet .now) (c .before .before .before .before .before .before .args .access) (c .before .before .before .before .before .before .args .path .now) (c .before .before .before .judge .result) (c .before .before .before .judge .ensures) _ (c .before .enum-told .given .1)
+returns c = (rest-refused (c .before .before .before .before .before .before .args .sheet .now) (c .before .before .before .before .before .before .args .access) (c .before .before .before .before .before .before .args .path .now) (c .before .before .before .judge .result) (c .before .before .before .judge .ensures) _ (c .before .enum-told .given .1), rw (sym (root-refused (c .before .before .before .before .before .before .args .sheet .now) (c .before .before .before .before .before .before .args .access) (c .before .before .before .before .before .before .args .path .now) (c .before .before .before .judge .result) (c .before .before .before .judge .ensures) _ (c .before .enum-told .given .1))) (part-is 0 0 _ (c .before .before .before .before .before .before .args .path) refl refl (omega arith) refl))
 
 after-requires : tie.Need-after-requires
 after-requires c κs = let w = c .before .before .before .judge .ensures .spans (c .before .b .given .0 .0) (c .before .b .given .1) in w .1
 
 returns-2 : tie.Need-returns-2
-returns-2 c = c .after .ensures ∙ rest-under (c .before .before .before .before .before .before .before .args .sheet .now) (c .before .before .before .before .before .before .before .args .access) (c .before .before .before .before .before .before .before .args .path .now) (c .before .before .before .before .judge .result) (c .before .before .before .before .judge .ensures) (c .before .before .b .given .0 .0) (c .before .before .b .given .1)
+returns-2 c = (c .after .ensures .0 ∙ rest-under (c .before .before .before .before .before .before .before .args .sheet .now) (c .before .before .before .before .before .before .before .args .access) (c .before .before .before .before .before .before .before .args .path .now) (c .before .before .before .before .judge .result) (c .before .before .before .before .judge .ensures) (c .before .before .b .given .0 .0) (c .before .before .b .given .1), rw (sym (root-length (c .before .before .before .before .before .before .before .args .sheet .now) (c .before .before .before .before .before .before .before .args .access) (c .before .before .before .before .before .before .before .args .path .now) (c .before .before .before .before .judge .result) (c .before .before .before .before .judge .ensures) (c .before .before .b .given .0 .0) (c .before .before .b .given .1))) (c .after .ensures .1))
 
 pub rest-of-spec : {M : Type 1} → statement M
 rest-of-spec =

@@ -3,7 +3,6 @@
 use mathlib.Core.Path.{refl}
 use native.Mathlib.Omega.{arith}
 use Rattle.meaning.specs.Sets.{mem}
-use borrow.Author.Needs.{needs}
 use Rattle.rows.proofs.bit.Statement.{statement}
 use Rattle.rows.proofs.bit.Tie as tie
 

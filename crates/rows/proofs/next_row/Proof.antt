@@ -1,14 +1,13 @@
 -- `rows::next_row` meets its contract. The loop's invariant: the row is that of the first n nodes.
 -- Assumes nothing.
-use Prim.Native.Nat.{ℕ, _+_, _^_, _≤_, _<_, _-_}
-use mathlib.Core.Path.{_≡_, refl, sym, ap, _∙_}
-use mathlib.Core.Bool.{Bool, cond}
+use Prim.Native.Nat.{_≤_, _<_, _-_}
+use mathlib.Core.Path.{_≡_, refl, ap, _∙_}
 use native.Mathlib.Omega.{arith}
 use native.Mathlib.Numerals.{add-one}
 use borrow.Author.Needs.{needs}
-use Rattle.meaning.specs.Steps.{nodeBit, rowTo, nextRow}
+use Rattle.meaning.specs.Steps.{rowTo, nextRow}
 use Rattle.sheet.specs.Sound.{rulesIn}
-use Rattle.rows.proofs.Arms.{few-nodes, node-fits, shifted, row-lt, row-grows}
+use Rattle.rows.proofs.Arms.{few-nodes, node-fits, shifted, row-grows}
 use Rattle.rows.proofs.next_row.Statement.{statement}
 use Rattle.rows.proofs.next_row.Tie as tie
 

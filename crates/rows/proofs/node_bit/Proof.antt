@@ -1,8 +1,5 @@
 -- `rows::node_bit` meets its contract: an arm for each kind.
 -- Assumes nothing.
-use Prim.Native.Nat.{_<_}
-use mathlib.Core.Path.{_≡_, refl, sym, _∙_}
-use native.Mathlib.Omega.{arith}
 use lib.ListN.{getD}
 use Rattle.meaning.specs.Sheet.{nodeOf, nodeKind, nodeKinds}
 use Rattle.meaning.specs.Steps.{nodeBit}

@@ -1,10 +1,8 @@
 -- `rows::possible` meets its contract.
 -- Assumes nothing.
-use mathlib.Core.Path.{_≡_, refl}
 use native.Mathlib.Omega.{arith}
 use Rattle.meaning.specs.Events.{possible}
 use Rattle.sheet.specs.Sound.{rulesIn}
-use borrow.Author.Needs.{needs}
 use Rattle.rows.proofs.possible.Statement.{statement}
 use Rattle.rows.proofs.possible.Tie as tie
 

@@ -1,6 +1,5 @@
 -- `sheet::refusal` meets its contract.
 -- Assumes nothing.
-use mathlib.Core.Path.{_≡_, refl}
 use Rattle.sheet.specs.Loads.{answered}
 use borrow.Author.Needs.{needs}
 use Rattle.sheet.proofs.refusal.Statement.{statement}

@@ -1,6 +1,5 @@
 -- `sheet::tally_after` meets its contract.
 -- Assumes nothing.
-use mathlib.Core.Path.{_≡_, refl}
 use native.Mathlib.Omega.{arith}
 use Rattle.sheet.specs.Loads.{counted}
 use borrow.Author.Needs.{needs}

@@ -2,7 +2,6 @@
 -- Assumes nothing.
 use native.Mathlib.Omega.{arith}
 use Rattle.window.proofs.Moves.{first-before, later-before}
-use borrow.Author.Needs.{needs}
 use Rattle.window.proofs.row_before.Statement.{statement}
 use Rattle.window.proofs.row_before.Tie as tie
 

@@ -1,6 +1,6 @@
 -- `faults::keys::disordered` meets its contract: each way out is a law of its own.
 -- Assumes nothing.
-use mathlib.Core.Path.{_≡_, sym, ap, _∙_}
+use mathlib.Core.Path.{sym, ap, _∙_}
 use mathlib.Core.Bool.{not}
 use Rattle.faults.proofs.Order.{order-first, order-again, order-down, order-up, order-same}
 use borrow.Author.Needs.{needs}

@@ -1,6 +1,6 @@
 -- `faults::keys::follows` meets its contract: each way out is a law of its own.
 -- Assumes nothing.
-use mathlib.Core.Path.{_≡_, sym, ap, ap₂, _∙_}
+use mathlib.Core.Path.{sym, ap₂, _∙_}
 use mathlib.Core.Logic.{inl, inr}
 use lib.Dec.{ltb}
 use Rattle.meaning.specs.Sheet.{ascends}

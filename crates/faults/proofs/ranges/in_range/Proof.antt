@@ -1,8 +1,6 @@
 -- `faults::ranges::in_range` meets its contract: each way out is a law of its own.
 -- Assumes nothing.
-use mathlib.Core.Path.{_≡_, sym, ap, _∙_}
-use mathlib.Core.Bool.{Bool, _&&_}
-use lib.Dec.{leb, ltb}
+use mathlib.Core.Path.{sym, _∙_}
 use Rattle.faults.proofs.Range.{range-count, range-root, range-node, range-pair}
 use borrow.Author.Needs.{needs}
 use Rattle.faults.proofs.ranges.in_range.Statement.{statement}

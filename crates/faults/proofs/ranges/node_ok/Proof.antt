@@ -1,6 +1,5 @@
 -- `faults::ranges::node_ok` meets its contract: an arm for each kind.
 -- Assumes nothing.
-use mathlib.Core.Path.{_≡_, sym, ap, _∙_}
 use Rattle.meaning.specs.Rules.{nodeInRange}
 use Rattle.meaning.specs.Sheet.{nodeOf, nodeKind, nodeKinds}
 use Rattle.laws.proofs.Nodes.{node-else}

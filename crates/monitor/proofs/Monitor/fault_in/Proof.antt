@@ -1,13 +1,9 @@
 -- `monitor::Monitor::fault_in` meets its contract.
 -- Assumes nothing.
-use Prim.Native.Nat.{ℕ, _+_, _-_, _≤_, _<_}
-use mathlib.Core.Path.{_≡_, refl, sym, ap, _∙_}
-use mathlib.Core.Bool.{true, false}
+use mathlib.Core.Path.{_∙_}
 use native.Mathlib.Omega.{arith}
-use borrow.Author.Tests.{le-leb, lt-leb, lt-ltb, le-ltb, eq-eqb, ne-eqb, not-true, not-false}
-use Rattle.monitor.proofs.States.{fit-of, fit-written, Places, places, possible-in, supported-in}
-use lib.ListN.{getD}
-use Rattle.monitor.specs.Calls.{faultAt, faultIn}
+use borrow.Author.Tests.{le-leb, lt-leb, lt-ltb, le-ltb, eq-eqb, ne-eqb}
+use Rattle.monitor.specs.Calls.{faultIn}
 use borrow.Author.Needs.{needs}
 use Rattle.monitor.proofs.Monitor.fault_in.Statement.{statement}
 use Rattle.monitor.proofs.Monitor.fault_in.Tie as tie

@@ -1,11 +1,6 @@
 -- `monitor::Monitor::opened` meets its contract.
 -- Assumes nothing.
-use Prim.Native.Nat.{_+_, _-_, _≤_, _<_}
-use mathlib.Core.Path.{_≡_, refl, sym, ap, _∙_}
-use native.Mathlib.Omega.{arith}
-use borrow.Author.Tests.{le-leb, lt-leb, eq-eqb, ne-eqb}
-use Rattle.monitor.proofs.States.{fit-of, fit-opened}
-use Rattle.monitor.specs.Calls.{bad, opened}
+use Rattle.monitor.specs.Calls.{opened}
 use borrow.Author.Needs.{needs}
 use Rattle.monitor.proofs.Monitor.opened.Statement.{statement}
 use Rattle.monitor.proofs.Monitor.opened.Tie as tie

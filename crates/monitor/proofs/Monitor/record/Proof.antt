@@ -1,11 +1,10 @@
 -- `monitor::Monitor::record` meets its contract.
 -- Assumes nothing.
-use Prim.Native.Nat.{ℕ, _+_, _-_, _≤_, _<_}
-use mathlib.Core.Path.{_≡_, refl, sym, ap, _∙_}
+use mathlib.Core.Path.{_≡_, sym, _∙_}
 use mathlib.Core.Bool.{true, false}
 use native.Mathlib.Omega.{arith}
-use borrow.Author.Tests.{le-leb, lt-leb, lt-ltb, le-ltb, eq-eqb, ne-eqb, not-true, not-false}
-use Rattle.monitor.proofs.States.{fit-of, fit-written, Places, places}
+use borrow.Author.Tests.{ne-eqb}
+use Rattle.monitor.proofs.States.{fit-of, fit-written, places}
 use Rattle.rows.proofs.Arms.{few-events}
 use Rattle.monitor.specs.Calls.{bad, recordOf}
 use borrow.Author.Needs.{needs}

@@ -1,12 +1,8 @@
 -- `monitor::Monitor::row_now` meets its contract.
 -- Assumes nothing.
-use Prim.Native.Nat.{_+_, _-_, _≤_, _<_}
-use mathlib.Core.Path.{_≡_, refl, sym, ap, _∙_}
 use native.Mathlib.Omega.{arith}
-use borrow.Author.Tests.{le-leb, lt-leb, eq-eqb, ne-eqb}
-use Rattle.monitor.proofs.States.{fit-of, fit-opened}
-use Rattle.monitor.specs.Calls.{bad, rowNow}
-use borrow.Author.Needs.{needs}
+use borrow.Author.Tests.{eq-eqb, ne-eqb}
+use Rattle.monitor.specs.Calls.{rowNow}
 use Rattle.monitor.proofs.Monitor.row_now.Statement.{statement}
 use Rattle.monitor.proofs.Monitor.row_now.Tie as tie
 

@@ -1,12 +1,10 @@
 -- `monitor::Monitor::settled` meets its contract.
 -- Assumes nothing.
 use Prim.Native.Nat.{_≤_}
-use mathlib.Core.Path.{_≡_, refl}
 use native.Mathlib.Omega.{arith}
 use Rattle.sheet.specs.Sound.{rulesIn}
 use Rattle.window.proofs.Moves.{run-le}
 use Rattle.monitor.specs.Calls.{settled}
-use borrow.Author.Needs.{needs}
 use Rattle.monitor.proofs.Monitor.settled.Statement.{statement}
 use Rattle.monitor.proofs.Monitor.settled.Tie as tie
 

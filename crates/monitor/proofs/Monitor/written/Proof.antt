@@ -1,10 +1,5 @@
 -- `monitor::Monitor::written` meets its contract.
 -- Assumes nothing.
-use Prim.Native.Nat.{ℕ, _+_, _-_, _≤_, _<_}
-use mathlib.Core.Path.{_≡_, refl, sym, ap, _∙_}
-use mathlib.Core.Bool.{true, false}
-use native.Mathlib.Omega.{arith}
-use borrow.Author.Tests.{le-leb, lt-leb, lt-ltb, le-ltb, eq-eqb, ne-eqb, not-true, not-false}
 use Rattle.monitor.specs.Calls.{written}
 use borrow.Author.Needs.{needs}
 use Rattle.monitor.proofs.Monitor.written.Statement.{statement}

@@ -1,10 +1,7 @@
 -- `sheet::Sheet::is_sound` meets its contract.
 -- Assumes nothing.
-use mathlib.Core.Path.{_≡_, refl}
-use native.Mathlib.Omega.{arith}
 use borrow.Author.Tests.{le-leb, lt-leb}
 use Rattle.sheet.specs.Sound.{sound}
-use borrow.Author.Needs.{needs}
 use Rattle.sheet.proofs.Sheet.is_sound.Statement.{statement}
 use Rattle.sheet.proofs.Sheet.is_sound.Tie as tie
 

@@ -1,8 +1,6 @@
 -- `sheet::Sheet::with_record` meets its contract: each way out is a law of its own.
 -- Assumes nothing.
-use Prim.Native.Nat.{_<_}
-use mathlib.Core.Path.{_≡_, sym, ap, ap₂, _∙_}
-use Rattle.sheet.specs.Loads.{putCount, putCause, putConflict, putNode}
+use mathlib.Core.Path.{sym, _∙_}
 use Rattle.sheet.proofs.Putting.{put-count, put-cause, put-conflict, put-root, put-node, fit-cause, fit-conflict, fit-node, last-kind}
 use borrow.Author.Needs.{needs}
 use Rattle.sheet.proofs.Sheet.with_record.Statement.{statement}

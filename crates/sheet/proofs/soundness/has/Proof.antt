@@ -3,7 +3,6 @@
 use mathlib.Core.Path.{refl}
 use native.Mathlib.Omega.{arith}
 use Rattle.meaning.specs.Sets.{mem}
-use borrow.Author.Needs.{needs}
 use Rattle.sheet.proofs.soundness.has.Statement.{statement}
 use Rattle.sheet.proofs.soundness.has.Tie as tie
 

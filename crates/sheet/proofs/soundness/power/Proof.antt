@@ -2,7 +2,6 @@
 -- Assumes nothing.
 use native.Mathlib.Omega.{arith}
 use Rattle.sheet.proofs.Tables.{one-shl-wide}
-use borrow.Author.Needs.{needs}
 use Rattle.sheet.proofs.soundness.power.Statement.{statement}
 use Rattle.sheet.proofs.soundness.power.Tie as tie
 
