@@ -22,7 +22,8 @@ use Rattle.history.specs.Made.{standing, monitorOf, Lawful}
 use Rattle.history.specs.Answers.{unless, begunTold}
 use Rattle.history.proofs.Loaded.{in-order, empty-allowed}
 use Rattle.history.proofs.Lists.{all-more}
-use Rattle.history.proofs.Front.{front-le, run-on, kept-count}
+use Rattle.window.proofs.Moves.{front-le}
+use Rattle.history.proofs.Front.{run-on, kept-count}
 use Rattle.history.proofs.Standing.{not-bad, settles, opened-standing}
 
 module _ (s : Sheet) (h : List ℕ) (w : Lawful s h) where

@@ -37,6 +37,7 @@ use Rattle.history.specs.Sequences.{Call, begin, check, counts, anew, re
 use Rattle.history.proofs.Loaded.{rules-stored}
 use Rattle.history.proofs.Standing.{not-bad}
 use Rattle.history.proofs.Images.{image-is, sheet-is}
+use Rattle.history.proofs.Room.{room-enough}
 use Rattle.history.proofs.Calls.{made-fresh, begin-tells, made-begun, record-tells, made-recorded, check-tells, made-checked, counts-tell, made-counted, save-tells, save-writes, restore-is}
 
 -- no refusal of an image has the number 0
@@ -337,4 +338,5 @@ pub demand-3 : Demand3
 unfolding Demand3
 demand-3 bytes m f =
     let (l, e, q) = fresh-of bytes m f in
-    (l, e, subst (ByTheHistory bytes (rulesOf l)) (sym q) (subst (λ (r : Rules). ByTheHistory bytes r (fresh (stored l))) (rules-stored bytes l e) (by-the-history bytes l e)))
+    let fresh-one = subst (λ (r : Rules). ByTheHistory bytes r (fresh (stored l))) (rules-stored bytes l e) (by-the-history bytes l e) in
+    (l, e, subst (ByTheHistory bytes (rulesOf l)) (sym q) fresh-one, room-enough (rulesOf l))

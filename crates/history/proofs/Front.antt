@@ -11,18 +11,9 @@ use lib.Seq.{length-take-le}
 use Rattle.meaning.specs.Rules.{Rules}
 use Rattle.meaning.specs.Events.{closed}
 use Rattle.meaning.specs.History.{letGo, keptOf}
+use Rattle.window.proofs.Moves.{front-le}
 
 module _ (r : Rules) where
-  -- no more are let go than there are
-  pub front-le : (h : List ℕ) → letGo r h ≤ length h
-  unfolding letGo
-  front-le [] = omega arith
-  front-le (x ∷ h) = go (closed r x) (front-le h)
-    where
-      go : (b : Bool) → letGo r h ≤ length h → cond b (suc (letGo r h)) 0 ≤ suc (length h)
-      go true l = omega arith
-      go false l = omega arith
-
   -- a session let go is closed
   pub front-closed : (h : List ℕ) (i : ℕ) → i < letGo r h → closed r (getD h i 0) ≡ true
   unfolding letGo
@@ -85,4 +76,4 @@ module _ (r : Rules) where
   -- how many are kept
   pub kept-count : (h : List ℕ) → letGo r h + length (keptOf r h) ≡ length h
   unfolding keptOf
-  kept-count h = let a = front-le h in let b = length-drop (letGo r h) h in omega arith
+  kept-count h = let a = front-le r h in let b = length-drop (letGo r h) h in omega arith

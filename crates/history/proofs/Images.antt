@@ -32,7 +32,8 @@ use Rattle.history.specs.Answers.{unless, savedTold}
 use Rattle.history.proofs.Lists.{filled-take, filled-at}
 use Rattle.history.proofs.Loaded.{in-order}
 use Rattle.history.proofs.Rows.{refreshed-rows}
-use Rattle.history.proofs.Front.{front-le, front-open, kept-count}
+use Rattle.window.proofs.Moves.{front-le}
+use Rattle.history.proofs.Front.{front-open, kept-count}
 use Rattle.history.proofs.Standing.{not-bad}
 
 -- A TEST OF EVERY ELEMENT, again of some of them, and a weaker one

@@ -9,8 +9,8 @@ pub mod Records
 pub mod Asks
 pub mod Images
 pub mod Calls
+pub mod Room
 pub mod Demand
 pub mod Corollaries
 pub mod Never
-pub mod Room
 pub mod Runs

@@ -25,7 +25,8 @@ use Rattle.history.specs.Made.{standing, monitorOf, Lawful}
 use Rattle.history.specs.Answers.{unless, recordedTold}
 use Rattle.history.proofs.Loaded.{in-order, not-itself}
 use Rattle.history.proofs.Lists.{filled-at, all-at, all-set}
-use Rattle.history.proofs.Front.{front-le, front-closed, run-on, kept-count}
+use Rattle.window.proofs.Moves.{front-le}
+use Rattle.history.proofs.Front.{front-closed, run-on, kept-count}
 use Rattle.history.proofs.Standing.{not-bad, settles, written-standing}
 use Rattle.history.proofs.Added.{added-lt, allowed-added}
 

@@ -3,17 +3,19 @@
 use Prim.Native.Nat.{ℕ, _+_, _-_, _≤_, _<_}
 use mathlib.Core.Path.{_≡_, refl, sym, ap, _∙_}
 use mathlib.Core.Bool.{Bool, true, false, false≢true, cond}
-use mathlib.Core.List.{List}
+use mathlib.Core.List.{List, [], _∷_, _++_}
 use mathlib.Core.Logic.{_↔_}
 use native.Mathlib.Omega.{arith}
-use lib.Dec.{leb, ltb}
+use lib.Dec.{eqb, leb, ltb}
 use lib.ListN.{length, getD}
 use lib.Seq.{getD-drop}
 use borrow.Author.Tests.{lt-leb, leb-true, leb-false, ltb-true, ltb-false}
 use Rattle.meaning.specs.Rules.{Rules}
 use Rattle.meaning.specs.Events.{closed}
 use Rattle.meaning.specs.Policy.{session}
-use Rattle.meaning.specs.History.{keptMost, totalMost, letGo, keptOf, beginFault}
+use Rattle.meaning.specs.History.{Told, begun, refused, After, orRefused, keptMost, totalMost, letGo, keptOf, beginFault}
+use Rattle.meaning.specs.History
+use Rattle.history.specs.Sequences.{RoomEnough}
 use Rattle.history.proofs.Front.{front-closed, front-open, kept-count}
 
 module _ (r : Rules) (h : List ℕ) where
@@ -78,3 +80,18 @@ module _ (r : Rules) (h : List ℕ) where
           let m : letGo r h < length h = ltb-true (letGo r h) (length h) t in
           absurd (false≢true (sym (front-takes m) ∙ c (letGo r h + 1) (omega arith) (omega arith)))
       go false t = omega (arith, kept-count r h, ltb-false (letGo r h) (length h) t)
+
+-- What begin tells is the fault that it meets.
+pub room-enough : (r : Rules) → RoomEnough r
+unfolding RoomEnough History.begin orRefused
+room-enough r h l = (λ t. room r h l .0 (go (beginFault r keptMost h) t), λ m. rw (room r h l .1 m))
+  where
+    told : ℕ → Bool → Told
+    told n b = (cond {A = After} b (record { told = begun (length h + 1); history = h ++ (0 ∷ []) }) (record { told = refused n; history = h })) .told
+
+    split : (n : ℕ) (b : Bool) → told n b ≡ refused 27 → n ≡ 27
+    split n true t = absurd (let z : _≡_ {A = ℕ} 0 1 = cc in omega arith)
+    split n false t = cc
+
+    go : (n : ℕ) → told n (eqb n 0) ≡ refused 27 → n ≡ 27
+    go n t = split n (eqb n 0) t

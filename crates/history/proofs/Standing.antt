@@ -21,7 +21,8 @@ use Rattle.monitor.specs.Calls.{fresh, bad, Fit, settled, opened, written}
 use Rattle.history.specs.Made.{rowsOf, standing, monitorOf, Lawful}
 use Rattle.history.proofs.Lists.{filled-at, filled-take, filled-set, filled-more, filled-moved}
 use Rattle.history.proofs.Rows.{rows-length, rows-cut, rows-more, rows-drop, before-is, row-front, rows-front, row-next, refreshed-rows}
-use Rattle.history.proofs.Front.{front-le, run-on, kept-count}
+use Rattle.window.proofs.Moves.{front-le}
+use Rattle.history.proofs.Front.{run-on, kept-count}
 
 -- the monitor of the empty history is the fresh one
 pub fresh-is : (s : Sheet) → fresh s ≡ monitorOf s []

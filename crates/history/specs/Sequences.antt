@@ -1,9 +1,9 @@
 -- Demand 3: over any sequence of calls each answer is that of the history in which nothing is dropped.
 -- Assumes nothing.
-use Prim.Native.Nat.{ℕ}
+use Prim.Native.Nat.{ℕ, _≤_, _<_}
 use mathlib.Core.Path.{_≡_}
 use mathlib.Core.Bool.{cond}
-use mathlib.Core.Logic.{_⊎_}
+use mathlib.Core.Logic.{_⊎_, _↔_}
 use mathlib.Core.List.{List, [], _∷_}
 use lib.Dec.{eqb, leb}
 use lib.ListN.{length, take}
@@ -12,7 +12,7 @@ use denote.Ref.{RefT, now}
 use Rattle.meaning.specs.Rules.{Rules}
 use Rattle.meaning.specs.Refusals.{Answer, good}
 use Rattle.meaning.specs.Sheet.{Sheet as Lists, sheetOf, rulesOf}
-use Rattle.meaning.specs.History.{Told, restored, refused, After, keptMost}
+use Rattle.meaning.specs.History.{Told, restored, refused, After, keptMost, totalMost, keptOf}
 use Rattle.meaning.specs.History
 use Rattle.meaning.specs.Image.{Image, imageBytes, imageOf, save, readImage}
 use Rattle.sheet.specs.declared.Loaded.{Loaded}
@@ -159,13 +159,19 @@ module _ (sheet : List ℕ) (r : Rules) where
   Run m w (c ∷ cs) [] = ⊥
   Run m w (c ∷ cs) (x ∷ xs) = (n : Monitor) × (v : List (List ℕ)) × Answers m w c x n v × Run n v cs xs
 
-  -- THE STATEMENT, on a monitor: whatever is called, the answers are, one by one, those of the whole history, whichever moments of saving it was put back to
+  -- on a monitor: whatever is called, the answers are, one by one, those of the whole history, whichever moments of saving it was put back to
   unfoldable pub ByTheHistory : Monitor → Type 0
   ByTheHistory m =
       (calls : List Call) (answers : List Heard) → Run m [] calls answers
       → Whole r nothingYet calls answers
       × ((others : List Heard) → Whole r nothingYet calls others → others ≡ answers)
 
--- and of every byte string that loads
+-- while session numbers remain, begin is refused for want of room exactly when 64 sessions stand from the first that can still take an event
+unfoldable pub RoomEnough : Rules → Type 0
+RoomEnough r = (h : List ℕ) → length h < totalMost → (History.begin r keptMost h .told ≡ refused 27) ↔ (keptMost ≤ length (keptOf r h))
+
+-- THE STATEMENT, of every byte string that loads
 unfoldable pub Demand3 : Type 0
-Demand3 = (bytes : List ℕ) (m : Monitor) → Fresh bytes m → (l : Lists) × (sheetOf bytes ≡ good l) × ByTheHistory bytes (rulesOf l) m
+Demand3 =
+    (bytes : List ℕ) (m : Monitor) → Fresh bytes m
+    → (l : Lists) × (sheetOf bytes ≡ good l) × ByTheHistory bytes (rulesOf l) m × RoomEnough (rulesOf l)

@@ -88,7 +88,7 @@ moving-more k i l h m =
     ∙ ap (λ (xs : List ℕ). xs ++ replicate (64 - (i + 1)) 0) (sym (take-suc (drop k l) i 0 inside) ∙ ap (λ (n : ℕ). take n (drop k l)) (sym (add-one i)))
 
 -- no more are let go than there are
-front-le : (r : Rules) (l : List ℕ) → letGo r l ≤ length l
+pub front-le : (r : Rules) (l : List ℕ) → letGo r l ≤ length l
 unfolding letGo
 front-le r [] = omega arith
 front-le r (x ∷ l) = go (closed r x) (front-le r l)
