@@ -44,9 +44,14 @@ impl Monitor {
     pub fn sheet(&mut self, bytes: Vec<u8>) -> Result<(), Refusal> {
         let tables = sheet::read(&bytes).map(|sheet| Tables::of(&sheet));
         self.sheet_bytes = bytes;
-        self.loaded = tables?;
+        let tables = tables?;
+        // After a power cut the same sheet is loaded anew: what was saved
+        // before still stands for its history.
+        if tables != self.loaded {
+            self.saved.clear();
+        }
+        self.loaded = tables;
         self.state = State::History(History::default());
-        self.saved.clear();
         Ok(())
     }
 

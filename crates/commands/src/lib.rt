@@ -1,4 +1,4 @@
-// Runs the library on commands: takes standard input line by line, and writes one line for each. A line is run by `lines`.
+// Runs the library on commands: takes standard input line by line, and writes one line for each command. A line is run by `lines`.
 use answers::buffer;
 use answers::buffer::Buffer;
 use lines::State;

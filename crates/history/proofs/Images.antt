@@ -60,7 +60,9 @@ module _ (n : ℕ) (bytes buffer : List ℕ) where
   abbrev ways : Bool → Saving
   ways b = cond b (record { told = refused 41; buffer = buffer }) (record { told = saved n; buffer = bytes })
 
-  same-told : (b : Bool) → unless (cond b 41 0) (saved (cond (eqb (cond b 41 0) 0) n 0)) ≡ ways b .told
+  same-told :
+      (b : Bool)
+      → unless (cond b 41 0) (eqb (cond (eqb (cond b 41 0) 0) n 0) 0) (saved (cond (eqb (cond b 41 0) 0) n 0)) ≡ ways b .told
   unfolding unless
   same-told true = refl
   same-told false = refl

@@ -1,4 +1,4 @@
--- Demand 3 is not about nothing: bytes that load have a fresh monitor, calls ask nothing of their caller, and every honest sequence of them has answers.
+-- Demand 3 is not about nothing: bytes that load have a fresh monitor, and every honest sequence of calls has answers.
 -- Assumes nothing.
 use Prim.Native.Nat.{ℕ}
 use mathlib.Core.Path.{_≡_, refl, sym, ap}
@@ -78,15 +78,3 @@ module _ (sheet : List ℕ) (r : Rules) (l : Lists) (loads : sheetOf sheet ≡ g
       let (x, n, v, a) = some-answer m w c o in
       let (xs, f) = some-run cs n v (os x n v a) in
       (x ∷ xs, (n, v, a, f))
-
--- No call asks anything of its caller.
-pub asks-nothing : (m : Monitor) (n e : ℕ) (κs : Lfts 1) (l : RefT (List ℕ)) →
-    (begin-reads.Asked tt (m, tt) ≡ Unit {0})
-    × (record-reads.Asked tt (m, (n, (e, tt))) ≡ Unit {0})
-    × (check-reads.Asked tt (m, tt) ≡ Unit {0})
-    × (counts-reads.Asked tt (m, tt) ≡ Unit {0})
-    × (save-reads.Asked κs (m, (l, tt)) ≡ Unit {0})
-    × (restore-reads.Asked κs (m, (l, tt)) ≡ Unit {0})
-    × (load-reads.Asked κs (l, tt) ≡ Unit {0})
-    × (new-reads.Asked tt (m .sheet, tt) ≡ Unit {0})
-asks-nothing m n e κs l = (refl, refl, refl, refl, refl, refl, refl, refl)

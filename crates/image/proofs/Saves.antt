@@ -44,11 +44,13 @@ module _ (m : Monitor) (room : m .kept ≤ length (m .sets)) where
   unfolding saveOf bufferAfter saveFault
   too-short out b l = let t = lt-ltb (length out) (19 + 7 * m .kept) l in (rw (b, saved-length, t), rw (b, saved-length, t))
 
-  pub saved-is : (out : List ℕ) → bad m ≡ false → 19 + 7 * m .kept ≤ length out
-      → (record { monitor = m; number = 0; length = 19 + 7 * m .kept } ≡ saveOf m out)
-      × (take (19 + 7 * m .kept) (whole (m .total) (m .gone) (m .carried) (m .sets)) ++ drop (19 + 7 * m .kept) out ≡ bufferAfter m out)
+  pub saved-is :
+      (out after : List ℕ) → bad m ≡ false → 19 + 7 * m .kept ≤ length out
+      → after ≡ take (19 + 7 * m .kept) (whole (m .total) (m .gone) (m .carried) (m .sets)) ++ drop (19 + 7 * m .kept) out
+      → (record { monitor = m; number = 0; length = 19 + 7 * m .kept } ≡ saveOf m out) × (after ≡ bufferAfter m out)
   unfolding saveOf bufferAfter saveFault
-  saved-is out b l = let t = le-ltb (length out) (19 + 7 * m .kept) l in (rw (b, saved-length, t), rw (b, saved-length, t, saved-bytes))
+  saved-is out after b l e =
+      let t = le-ltb (length out) (19 + 7 * m .kept) l in (rw (b, saved-length, t), e ∙ rw (b, saved-length, t, saved-bytes))
 
 pub saved-bad : (m : Monitor) (out : List ℕ) → bad m ≡ true → (record { monitor = m; number = 20; length = 0 } ≡ saveOf m out) × (out ≡ bufferAfter m out)
 unfolding saveOf bufferAfter saveFault

@@ -116,7 +116,7 @@ fn all_fine(s: Sheet, sets: [u32; 64], kept: usize) -> bool
     true
 }
 
-// What 43 names: a set or the row not of this sheet, or the oldest kept session closed.
+// What 43 names: a set or the row with bits outside the sheet, a set not allowed, or the oldest kept session closed.
 pub fn is_unlawful(s: Sheet, carried: u64, sets: [u32; 64], kept: usize) -> bool
     requires { ⌜ (sound s ≡ true) × (kept ≤ 64) ⌝ }
     ensures { λ r. ⌜ r ≡ unlawfulIn s carried (take kept sets) ⌝ }

@@ -179,7 +179,7 @@ impl Monitor {
         self
     }
 
-    // What an event meets in the set x of an open place: 24, 25, 26 or nothing.
+    // 23 to 26, or 0: what event e meets in the set x of a kept session.
     fn fault_at(self, x: u32, e: usize) -> u32
         requires { ⌜ Fit self × (e < self .sheet .events) ⌝ }
         ensures { λ r. ⌜ r ≡ faultAt self x e ⌝ }

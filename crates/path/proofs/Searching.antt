@@ -19,7 +19,7 @@ use Rattle.laws.proofs.Quantifiers.{and-left, and-right, and-both}
 use Rattle.laws.proofs.Accepted.{walked, walk-end, no-fault, accepted-walk}
 use Rattle.records.specs.declared.Frame.{Frame}
 use Rattle.records.specs.declared.Record.the-variants.{Whole}
-use Rattle.records.specs.Frames.{frameAt, recordAt}
+use Rattle.records.specs.Frames.{frameAt, framedAt}
 use Rattle.records.proofs.Framing.{whole-says}
 use Rattle.faults.specs.Tallies.{payloadIn, itemIn}
 use Rattle.faults.proofs.Framed.{frame-known, frame-inside, frame-next, frame-item, frame-behind, frame-root}
@@ -83,7 +83,7 @@ module _ (bytes : List ℕ) (access : ℕ) (path : List ℕ) (best : Span) (at :
           let b : good (w .final) ≡ good s = sym (w .accepted) ∙ e in
           cc
 
-  module _ (f : Frame) (says : recordAt bytes at ≡ Whole f) where
+  module _ (f : Frame) (says : framedAt bytes at ≡ good f) where
     whole : framed r ≡ true
     whole = whole-says bytes at f says .0
 

@@ -1,1 +1,1 @@
-// What a host is promised of every call: see proofs/Coincide.antt.
+// What a host is promised of every call, in one place: see proofs/.

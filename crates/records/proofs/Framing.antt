@@ -11,10 +11,11 @@ use lib.ListN.{length, getD, take, drop, length-drop, List·getD-map}
 use lib.Seq.{getD-drop, drop-drop}
 use borrow.Author.Tests.{lt-ltb, le-ltb, le-leb, lt-leb, eq-eqb, ne-eqb, eqb-true, eqb-false}
 use Rattle.meaning.specs.Records.{marked, kindOf}
+use Rattle.records.specs.declared.Record.{Record}
 use Rattle.records.specs.declared.Record.the-variants.{Whole, Broken}
 use Rattle.records.specs.declared.Frame.{Frame}
-use Rattle.meaning.specs.Refusals.{good, refused}
-use Rattle.records.specs.Frames.{frameAt, framedAt, answer, toldAs, recordAt}
+use Rattle.meaning.specs.Refusals.{Answer, good, refused}
+use Rattle.records.specs.Frames.{frameAt, framedAt, answer}
 use Rattle.meaning.specs.Sheet.{Kind, NodeKind, kinds, kindAt, knownKind, nodeKinds, nodeKind, nodeFits, payload, whole, fits, framed}
 
 -- NODES
@@ -157,28 +158,37 @@ module _ (s : List ℕ) (at : ℕ) where
 
 -- WHAT STANDS AT A PLACE
 
-pub breaks : (s : List ℕ) (at : ℕ) → framed (drop at s) ≡ false → Broken ≡ recordAt s at
-unfolding recordAt toldAs framedAt
+pub breaks : (s : List ℕ) (at : ℕ) → framed (drop at s) ≡ false → answer Broken ≡ framedAt s at
+unfolding answer framedAt
 breaks s at e = rw e
 
-pub stands : (s : List ℕ) (at : ℕ) → framed (drop at s) ≡ true → Whole (frameAt s at) ≡ recordAt s at
-unfolding recordAt toldAs framedAt
+pub stands : (s : List ℕ) (at : ℕ) → framed (drop at s) ≡ true → answer (Whole (frameAt s at)) ≡ framedAt s at
+unfolding answer framedAt
 stands s at e = rw e
 
+-- what a reader's answer tells
+pub broken-told : {a : Answer Frame} (t : Record) → answer t ≡ a → t ≡ Broken → a ≡ refused 11
+unfolding answer
+broken-told t q e = sym q ∙ ap answer e
+
+pub whole-told : {a : Answer Frame} (t : Record) (f : Frame) → answer t ≡ a → t ≡ Whole f → a ≡ good f
+unfolding answer
+whole-told t f q e = sym q ∙ ap answer e
+
 -- and back
-pub broken-says : (s : List ℕ) (at : ℕ) → recordAt s at ≡ Broken → framed (drop at s) ≡ false
-unfolding recordAt toldAs framedAt
+pub broken-says : (s : List ℕ) (at : ℕ) → framedAt s at ≡ refused 11 → framed (drop at s) ≡ false
+unfolding framedAt
 broken-says s at e = go (framed (drop at s)) e
   where
-    go : (t : Bool) → toldAs (cond t (good (frameAt s at)) (refused 11)) ≡ Broken → t ≡ false
+    go : (t : Bool) → cond t (good (frameAt s at)) (refused 11) ≡ refused 11 → t ≡ false
     go true e = absurd (let z : _≡_ {A = ℕ} 0 1 = cc in omega arith)
     go false e = refl
 
-pub whole-says : (s : List ℕ) (at : ℕ) (f : Frame) → recordAt s at ≡ Whole f → (framed (drop at s) ≡ true) × (f ≡ frameAt s at)
-unfolding recordAt toldAs framedAt
+pub whole-says : (s : List ℕ) (at : ℕ) (f : Frame) → framedAt s at ≡ good f → (framed (drop at s) ≡ true) × (f ≡ frameAt s at)
+unfolding framedAt
 whole-says s at f e = go (framed (drop at s)) e
   where
-    go : (t : Bool) → toldAs (cond t (good (frameAt s at)) (refused 11)) ≡ Whole f → (t ≡ true) × (f ≡ frameAt s at)
+    go : (t : Bool) → cond t (good (frameAt s at)) (refused 11) ≡ good f → (t ≡ true) × (f ≡ frameAt s at)
     go true e = (refl, cc)
     go false e = absurd (let z : _≡_ {A = ℕ} 0 1 = cc in omega arith)
 
@@ -188,12 +198,3 @@ pub frame-bytes :
     → frameAt s at ≡ record { kind = getD s (at + 2) 0; start = at + 4; len = getD s (at + 3) 0; next = at + 4 + getD s (at + 3) 0 }
 unfolding frameAt kindOf
 frame-bytes s at = rw (getD-drop at s 2 0, getD-drop at s 3 0)
-
--- The reader's answer says just that.
-pub answer-is : (s : List ℕ) (at : ℕ) → answer (recordAt s at) ≡ framedAt s at
-unfolding recordAt toldAs framedAt answer
-answer-is s at = go (framed (drop at s))
-  where
-    go : (b : Bool) → answer (toldAs (cond b (good (frameAt s at)) (refused 11))) ≡ cond b (good (frameAt s at)) (refused 11)
-    go true = refl
-    go false = refl

@@ -25,11 +25,3 @@ framedAt s at = cond (framed (drop at s)) (good (frameAt s at)) (refused 11)
 unfoldable pub answer : Record → Answer Frame
 answer (Whole f) = good f
 answer Broken = refused 11
-
--- and the reader's answer that says it
-unfoldable pub toldAs : Answer Frame → Record
-toldAs (good f) = Whole f
-toldAs (refused n) = Broken
-
-unfoldable pub recordAt : List ℕ → ℕ → Record
-recordAt s at = toldAs (framedAt s at)

@@ -3,7 +3,7 @@
 ghost use mathlib.Core.Path.{_≡_};
 ghost use mathlib.Core.Bool.{_&&_};
 ghost use Rattle.meaning.specs.Sheet.{nodeFits, knownKind, fits as fitsKind};
-ghost use Rattle.records.specs.Frames.{recordAt};
+ghost use Rattle.records.specs.Frames.{framedAt, answer};
 
 mod reader;
 
@@ -70,7 +70,7 @@ fn fits(kind: u8, p: &[u8]) -> bool
 
 // What stands at a place of a sheet.
 pub fn step_at(s: &[u8], at: usize) -> Record
-    ensures { λ r. ⌜ r ≡ recordAt (now (s .entry)) at ⌝ }
+    ensures { λ r. ⌜ answer r ≡ framedAt (now (s .entry)) at ⌝ }
 {
     if s.len() <= at {
         return Record::Broken;

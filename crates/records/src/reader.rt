@@ -1,7 +1,7 @@
 // Reading a sheet by holding it. The borrow checker covers no function that holds a reader: each is proved by a walk, so the work is left to
 // `step_at`, which is covered.
 ghost use mathlib.Core.Path.{_≡_};
-ghost use Rattle.records.specs.Frames.{recordAt};
+ghost use Rattle.records.specs.Frames.{framedAt, answer};
 use crate::Record;
 use crate::step_at;
 
@@ -28,7 +28,7 @@ impl<'a> Reader<'a> {
     }
 
     pub fn next(self) -> Record
-        ensures { λ r. ⌜ r ≡ recordAt (now (self .entry .bytes)) (self .entry .at) ⌝ }
+        ensures { λ r. ⌜ answer r ≡ framedAt (now (self .entry .bytes)) (self .entry .at) ⌝ }
     {
         step_at(self.bytes, self.at)
     }
@@ -36,7 +36,7 @@ impl<'a> Reader<'a> {
 
 // What stands at a place, read through a reader: loading stands on this.
 pub fn read_at(s: &[u8], at: usize) -> Record
-    ensures { λ r. ⌜ r ≡ recordAt (now (s .entry)) at ⌝ }
+    ensures { λ r. ⌜ answer r ≡ framedAt (now (s .entry)) at ⌝ }
 {
     Reader::new(s).moved(at).next()
 }

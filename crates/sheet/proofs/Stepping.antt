@@ -5,12 +5,12 @@ use mathlib.Core.Path.{_≡_, sym, ap, _∙_, subst}
 use mathlib.Core.Bool.{true}
 use mathlib.Core.List.{List}
 use lib.ListN.{length, drop}
-use Rattle.meaning.specs.Refusals.{refused}
+use Rattle.meaning.specs.Refusals.{good, refused}
 use Rattle.meaning.specs.Sheet.{itemOf, nothingRead, framed, itemFault, tally, walk}
 use Rattle.meaning.specs.Sheet
 use Rattle.records.specs.declared.Frame.{Frame}
 use Rattle.records.specs.declared.Record.the-variants.{Whole}
-use Rattle.records.specs.Frames.{frameAt, recordAt}
+use Rattle.records.specs.Frames.{frameAt, framedAt}
 use Rattle.records.proofs.Framing.{whole-says}
 use Rattle.faults.specs.declared.Tally.{Tally}
 use Rattle.faults.specs.Tallies.{Inside, payloadIn, itemIn, tallied}
@@ -20,7 +20,7 @@ use Rattle.faults.proofs.Framed.{frame-known, frame-inside, frame-next, frame-i
 use Rattle.sheet.proofs.Loading.{Walking, fails, passes-by, goes-on}
 use Rattle.sheet.proofs.Putting.{fits-places}
 
-module _ (s : List ℕ) (x : Sheet) (t : Tally) (at : ℕ) (w : Walking s x t at) (f : Frame) (says : recordAt s at ≡ Whole f) where
+module _ (s : List ℕ) (x : Sheet) (t : Tally) (at : ℕ) (w : Walking s x t at) (f : Frame) (says : framedAt s at ≡ good f) where
   whole : framed (drop at s) ≡ true
   whole = whole-says s at f says .0
 

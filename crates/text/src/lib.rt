@@ -202,7 +202,7 @@ fn is_dash(s: &[u8]) -> bool {
 }
 
 // Puts the bytes that s says at the front of buf. Spaces and "|" may stand between the pairs, before them and behind them, but not inside one. A text
-// with no pair is wrong, and so is one with more bytes than buf has room for.
+// with no pair is wrong, but for one "-" (no bytes), and so is one with more bytes than buf has room for.
 pub fn hex_into(s: &[u8], buf: &mut [u8; 8192]) -> Hex {
     if is_dash(s) {
         return Hex::Bytes(0);

@@ -1,4 +1,4 @@
-// The kept sessions: their sets and rows in two lent arrays, oldest first, unused places 0.
+// The kept sessions: their sets and rows in two arrays, oldest first, unused places 0.
 ghost use mathlib.Core.Path.{_≡_};
 ghost use mathlib.Core.Bool.{true};
 ghost use Prim.Native.Nat.{_≤_, _-_};

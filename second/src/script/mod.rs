@@ -23,7 +23,9 @@ pub struct Script {
     commands: usize,
     random: Random,
     monitor: Monitor,
-    /// Images saved of histories under the sheet at hand.
+    /// The sheet at hand.
+    sheet: Vec<u8>,
+    /// Images saved of histories under it.
     images: Vec<Vec<u8>>,
     /// The last one saved under the sheet before.
     foreign: Vec<u8>,
@@ -41,6 +43,7 @@ impl Script {
             commands: 0,
             random,
             monitor: Monitor::default(),
+            sheet: Vec::new(),
             images: Vec::new(),
             foreign: Vec::new(),
             habit,
@@ -127,13 +130,29 @@ impl Script {
     /// Lends a sheet; where it is accepted, what was saved before is past.
     fn use_sheet(&mut self, bytes: &[u8]) {
         if self.say_hex("sheet", bytes) == b"ok" {
+            self.sheet = bytes.to_vec();
             self.foreign = self.images.pop().unwrap_or_default();
             self.images.clear();
         }
     }
 
+    /// The power fails: the same sheet is loaded anew, and an image that was
+    /// saved before comes back. Large sheets are spared, for a short script.
+    fn power_cut(&mut self) {
+        if self.images.is_empty() || self.sheet.len() > 600 {
+            return;
+        }
+        let sheet = self.sheet.clone();
+        self.say_hex("sheet", &sheet);
+        self.say("check");
+        let image = self.images[self.random.below(self.images.len())].clone();
+        self.say_hex("restore", &image);
+        self.say("check");
+        self.say("counts");
+    }
+
     fn burst(&mut self) {
-        match self.random.weighted(&[370, 16, 110, 150, 130, 80, 35, 12]) {
+        match self.random.weighted(&[370, 16, 110, 150, 130, 80, 35, 12, 14]) {
             0 => self.history_burst(),
             1 => self.full_burst(),
             2 => self.image_burst(),
@@ -141,7 +160,8 @@ impl Script {
             4 => self.path_burst(),
             5 => self.noise(),
             6 => self.damaged_sheet(),
-            _ => self.march(),
+            7 => self.march(),
+            _ => self.power_cut(),
         }
         if self.random.below(1000) == 0 {
             self.long_line();

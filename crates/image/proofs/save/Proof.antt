@@ -33,7 +33,7 @@ same-length : tie.Need-same-length
 same-length c = search needs
 
 returns-3 : tie.Need-returns-3
-returns-3 c = let q : bad (c .before .before .before .before .before .before .before .before .before .before .args .m) ≡ false = sym (c .before .before .before .before .before .before .before .before .is-bad .ensures) ∙ c .before .before .before .before .before .before .before .if1 .left in let f = fit-of (c .before .before .before .before .before .before .before .before .before .before .args .m) q .few in let z : length ((c .before .before .before .before .before .before .before .before .before .before .args .m) .sets) ≡ 64 = search needs in let r = saved-is (c .before .before .before .before .before .before .before .before .before .before .args .m) (omega arith) (c .before .before .before .before .before .before .before .before .before .before .args .out .now) q (c .before .before .before .before .before .before .if2 .left) in (r .0, c .before .before .put .ensures ∙ r .1)
+returns-3 c = let q : bad (c .before .before .before .before .before .before .before .before .before .before .args .m) ≡ false = sym (c .before .before .before .before .before .before .before .before .is-bad .ensures) ∙ c .before .before .before .before .before .before .before .if1 .left in let f = fit-of (c .before .before .before .before .before .before .before .before .before .before .args .m) q .few in let z : length ((c .before .before .before .before .before .before .before .before .before .before .args .m) .sets) ≡ 64 = search needs in saved-is (c .before .before .before .before .before .before .before .before .before .before .args .m) (omega arith) (c .before .before .before .before .before .before .before .before .before .before .args .out .now) _ q (c .before .before .before .before .before .before .if2 .left) (c .before .before .put .ensures)
 
 pub save-spec : {M : Type 1} → statement M
 save-spec =

@@ -6,6 +6,7 @@ use native.Mathlib.Omega.{arith}
 use borrow.Author.Tests.{not-true, not-false}
 use Rattle.records.specs.declared.Record.the-variants.{Whole}
 use Rattle.records.specs.declared.Frame.{Frame}
+use Rattle.records.specs.Frames.{answer}
 use Rattle.records.proofs.Framing.{broken-short, broken-cut, broken-mark, broken-second, framed-by, breaks, stands, frame-bytes}
 use borrow.Author.Needs.{needs}
 use Rattle.records.proofs.step_at.Statement.{statement}
@@ -78,7 +79,7 @@ returns-6 : tie.Need-returns-6
 returns-6 c = breaks (c .before .before .before .before .before .before .before .before .before .before .before .before .before .args .s .now) (c .before .before .before .before .before .before .before .before .before .before .before .before .before .args .at) (framed-by (c .before .before .before .before .before .before .before .before .before .before .before .before .before .args .s .now) (c .before .before .before .before .before .before .before .before .before .before .before .before .before .args .at) (c .before .before .before .before .before .before .before .before .before .before .if2 .left) (c .before .before .before .before .before .before .before .before .if3 .left) (c .before .before .before .before .before .before .if4 .left) (c .before .before .before .before .if5 .left) (c .before .fits2 .result) (c .before .fits2 .ensures) ∙ not-true (c .before .fits2 .result) (c .if6 .taken))
 
 returns-7 : tie.Need-returns-7
-returns-7 c = sym (ap (λ (f : Frame). Whole f) (frame-bytes (c .before .before .before .before .before .before .before .before .before .before .before .before .before .args .s .now) (c .before .before .before .before .before .before .before .before .before .before .before .before .before .args .at))) ∙ stands (c .before .before .before .before .before .before .before .before .before .before .before .before .before .args .s .now) (c .before .before .before .before .before .before .before .before .before .before .before .before .before .args .at) (framed-by (c .before .before .before .before .before .before .before .before .before .before .before .before .before .args .s .now) (c .before .before .before .before .before .before .before .before .before .before .before .before .before .args .at) (c .before .before .before .before .before .before .before .before .before .before .if2 .left) (c .before .before .before .before .before .before .before .before .if3 .left) (c .before .before .before .before .before .before .if4 .left) (c .before .before .before .before .if5 .left) (c .before .fits2 .result) (c .before .fits2 .ensures) ∙ not-false (c .before .fits2 .result) (c .if6 .left))
+returns-7 c = sym (ap (λ (f : Frame). answer (Whole f)) (frame-bytes (c .before .before .before .before .before .before .before .before .before .before .before .before .before .args .s .now) (c .before .before .before .before .before .before .before .before .before .before .before .before .before .args .at))) ∙ stands (c .before .before .before .before .before .before .before .before .before .before .before .before .before .args .s .now) (c .before .before .before .before .before .before .before .before .before .before .before .before .before .args .at) (framed-by (c .before .before .before .before .before .before .before .before .before .before .before .before .before .args .s .now) (c .before .before .before .before .before .before .before .before .before .before .before .before .before .args .at) (c .before .before .before .before .before .before .before .before .before .before .if2 .left) (c .before .before .before .before .before .before .before .before .if3 .left) (c .before .before .before .before .before .before .if4 .left) (c .before .before .before .before .if5 .left) (c .before .fits2 .result) (c .before .fits2 .ensures) ∙ not-false (c .before .fits2 .result) (c .if6 .left))
 
 pub step-at-spec : {M : Type 1} → statement M
 step-at-spec =

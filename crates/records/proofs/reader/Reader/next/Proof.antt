@@ -43,7 +43,9 @@ use denote.Triple.Table.{entered, cited}
 use denote.Triple.Walked.{says, Stays, stay-none, walkOf, goes-none, Walks, ends-at, walked, walk-meets}
 use denote.Exit.{yes}
 use denote.Triple.Clauses.{ensured, lasts}
-use Rattle.records.specs.Frames.{recordAt}
+use Rattle.meaning.specs.Refusals.{Answer}
+use Rattle.records.specs.declared.Frame.{Frame}
+use Rattle.records.specs.Frames.{framedAt, answer}
 use Rattle.records.specs.declared.reader.Reader.{Reader}
 use Rattle.records.specs.declared.Record.{Record}
 use Rattle.records.proofs.reader.Reader as T
@@ -79,8 +81,8 @@ module _ {M : Type 1} (𝓤 : URA M) (H : Heap 𝓤) (A : Atoms 𝓤) (W : Given
   abbrev v : Val
   v = sliceVal (d .bytes .ptr) (length (d .bytes .now))
 
-  abbrev found : Record
-  found = recordAt (now (d .bytes)) (d .at)
+  abbrev found : Answer Frame
+  found = framedAt (now (d .bytes)) (d .at)
 
   abbrev Post : Val → SProp 𝓤
   Post = walkOf 𝓤 H A next.ended stayed (next.clauses 𝓤 H A mem run) .post (((κ, tt), (q, tt), tt, (d, tt), (mach ∷ [], tt)), tt)
@@ -119,10 +121,10 @@ module _ {M : Type 1} (𝓤 : URA M) (H : Heap 𝓤) (A : Atoms 𝓤) (W : Given
       move ! (2 ∷ 0 ∷ []) $ use2 W (raw (StepAt 𝓤 H A mem run .pre to)) asked $ frame ! $ done !)
 
   -- of the callee's `ensured`, the clause alone: it has no `&mut`, so what is said of last values is dropped
-  said : (r : Record) → ent 𝓤 (ensured 𝓤 H A step.ended (step.clauses 𝓤 H A mem run) (κ, tt) (d .bytes, (d .at, tt)) tt r) (fact 𝓤 (r ≡ found))
-  said r = exE 𝓤 _ (λ ws. snd∗ 𝓤 (sem 𝓤 H A (lasts step.ended (κ, tt) (d .bytes, (d .at, tt)) ws)) (fact 𝓤 (r ≡ found)))
+  said : (r : Record) → ent 𝓤 (ensured 𝓤 H A step.ended (step.clauses 𝓤 H A mem run) (κ, tt) (d .bytes, (d .at, tt)) tt r) (fact 𝓤 (answer r ≡ found))
+  said r = exE 𝓤 _ (λ ws. snd∗ 𝓤 (sem 𝓤 H A (lasts step.ended (κ, tt) (d .bytes, (d .at, tt)) ws)) (fact 𝓤 (answer r ≡ found)))
 
-  exits : (r : Record) (u : Val) → r ≡ found → ent 𝓤 (⋆ 𝓤 H A (‵ (S.the-row .own r (u ∷ [])) ∷ (‵ (flft κ q) ⊛ ‵ ftrue) ∷ ‵ Own ∷ [])) (Post u)
+  exits : (r : Record) (u : Val) → answer r ≡ found → ent 𝓤 (⋆ 𝓤 H A (‵ (S.the-row .own r (u ∷ [])) ∷ (‵ (flft κ q) ⊛ ‵ ftrue) ∷ ‵ Own ∷ [])) (Post u)
   exits r u e =
       qed W (‵ (S.the-row .own r (u ∷ [])) ∷ (‵ (flft κ q) ⊛ ‵ ftrue) ∷ ‵ Own ∷ []) ∵
       suffices ! _ (ends-at 𝓤 H A next.ended stayed (next.clauses 𝓤 H A mem run) W (((κ, tt), (q, tt), tt, (d, tt), (mach ∷ [], tt)), tt) u r (tt, tt) (tt, tt)) $ says ! e $
@@ -138,7 +140,7 @@ module _ {M : Type 1} (𝓤 : URA M) (H : Heap 𝓤) (A : Atoms 𝓤) (W : Given
         move ! (8 ∷ []) $ use1 W (raw (StepAt 𝓤 H A mem run .pre to) ⊛ ‵ Own) (apart (wt .1 .1 .0 .fits)) $ split ! $
         calls-at ! fm (StepAt 𝓤 H A mem run) known to (and-then ! (load ! (from ! (stop !)) (look ! 4 refl)) (and-then ! (load ! (from ! (stop !)) (look ! 2 refl)) (no-more !))) (λ u.
         use1 W (later (some (λ (r : Record). ((‵ (flft κ q) ⊛ ‵ ftrue) ⊛ ‵ (S.the-row .own r (u ∷ []))) ⊛ raw (ensured 𝓤 H A step.ended (step.clauses 𝓤 H A mem run) (κ, tt) (d .bytes, (d .at, tt)) tt r)))) (id⊢ 𝓤 _) $ await ! tt $ pick ! (λ r.
-        split ! $ move ! (1 ∷ []) $ use1 W (raw (fact 𝓤 (r ≡ found))) (said r) $ heard ! (r ≡ found) (λ e. split ! $ move ! (1 ∷ []) $
+        split ! $ move ! (1 ∷ []) $ use1 W (raw (fact 𝓤 (answer r ≡ found))) (said r) $ heard ! (answer r ≡ found) (λ e. split ! $ move ! (1 ∷ []) $
         -- [the result; the token; what the struct owns; _3; …; _2; …; _1; …; room for _0; …]
         peeks ! S.the-row (Is S.the-row) (shows 𝓤 H A S.the-row) r (u ∷ []) (λ is.
         land ! (from ! (stop !)) (init ! 9 refl (EL.lawful S.the-type S′.the-laws 𝓤 H A W tt .typed r _ is .0)) $
