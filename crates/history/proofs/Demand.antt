@@ -33,7 +33,7 @@ use Rattle.image.specs.declared.Restored.{Restored}
 use Rattle.image.specs.Images.{imageIn, saveFault, saveOf, bufferAfter, restoredAs, restoreOf}
 use Rattle.history.specs.Made.{monitorOf, Lawful, Made}
 use Rattle.history.specs.Answers.{unless, begunTold, recordedTold, checkedTold, countedTold, savedTold, restoredTold}
-use Rattle.history.specs.Sequences.{Call, begin, check, counts, anew, recording, saving, restoring, Heard, heard, left, silence, Moment, Past, nothingYet, _among_, follows, afterSaving, Returns, Refuses, Goes, Whole, Hands, wroteToo, Saved-before, Answers, Run, Fresh, ByTheHistory, Demand3}
+use Rattle.history.specs.Sequences.{Call, begin, check, counts, anew, recording, saving, restoring, Heard, heard, left, silence, Moment, Past, nothingYet, _among_, follows, afterSaving, Returns, Refuses, Goes, Whole, Hands, wroteToo, SavedBefore, Answers, Run, Fresh, ByTheHistory, Demand3}
 use Rattle.history.proofs.Loaded.{rules-stored}
 use Rattle.history.proofs.Standing.{not-bad}
 use Rattle.history.proofs.Images.{image-is, sheet-is}
@@ -237,7 +237,7 @@ module _ (sheet : List ℕ) (l : Lists) (loads : sheetOf sheet ≡ good l) where
         wrote-is = let (κs, lent, a, hb, la, (hx, hn), hv, hw) = g in hv
 
         saved-before : (i : Image) → readImage keptMost r bytes ≡ good i → bytes among w
-        unfolding Answers Hands Saved-before
+        unfolding Answers Hands SavedBefore
         saved-before = let (κs, lent, a, hb, la, (hx, hn), hv, hw) = g in hw
 
         back-to :

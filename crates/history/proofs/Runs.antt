@@ -21,7 +21,7 @@ use Rattle.image.specs.Images.{saveOf, bufferAfter, restoreOf}
 use Rattle.image.proofs.save.Reads as save-reads
 use Rattle.image.proofs.restore.Reads as restore-reads
 use Rattle.history.specs.Answers.{begunTold, recordedTold, checkedTold, countedTold, savedTold, restoredTold}
-use Rattle.history.specs.Sequences.{Call, begin, check, counts, anew, recording, saving, restoring, Heard, heard, left, silence, Hands, wroteToo, Saved-before, Answers, Run, Fresh}
+use Rattle.history.specs.Sequences.{Call, begin, check, counts, anew, recording, saving, restoring, Heard, heard, left, silence, Hands, wroteToo, SavedBefore, Answers, Run, Fresh}
 
 -- some lifetime, and some reference to a value
 abbrev anyLft : Lfts 1
@@ -46,7 +46,7 @@ module _ (sheet : List ℕ) (r : Rules) (l : Lists) (loads : sheetOf sheet ≡ g
   Honest w anew = Unit {0}
   Honest w (recording s e) = Unit {0}
   Honest w (saving buffer) = Unit {0}
-  Honest w (restoring bytes) = Saved-before sheet r bytes w
+  Honest w (restoring bytes) = SavedBefore sheet r bytes w
 
   -- Every honest call on every monitor has an answer.
   pub some-answer :

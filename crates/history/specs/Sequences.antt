@@ -132,8 +132,8 @@ wroteToo a buffer written = cond (eqb (a .number) 0) (take (a .length) buffer �
 -- of a sheet's bytes, and the rules that they say
 module _ (sheet : List ℕ) (r : Rules) where
   -- bytes that are an image were written by an earlier save; of others demand 3 does not speak
-  unfoldable pub Saved-before : List ℕ → List (List ℕ) → Type 0
-  Saved-before bytes w = (i : Image) → readImage keptMost r bytes ≡ good i → bytes among w
+  unfoldable pub SavedBefore : List ℕ → List (List ℕ) → Type 0
+  SavedBefore bytes w = (i : Image) → readImage keptMost r bytes ≡ good i → bytes among w
 
   -- a call on the monitor m, where earlier saves wrote w: what is heard, the monitor after it, what saves have written then
   unfoldable pub Answers : Monitor → List (List ℕ) → Call → Heard → Monitor → List (List ℕ) → Type 0
@@ -151,7 +151,7 @@ module _ (sheet : List ℕ) (r : Rules) where
       (κs : Lfts 1) × (lent : RefT (List ℕ)) × (a : Restored)
       × (now lent ≡ bytes) × restore-reads.Learnt κs (m, (lent, tt)) a (m, (lent, tt))
       × Hands (heard (restoredTold a)) (a .monitor) x n × (v ≡ w)
-      × Saved-before bytes w
+      × SavedBefore bytes w
 
   unfoldable pub Run : Monitor → List (List ℕ) → List Call → List Heard → Type 0
   Run m w [] [] = Unit {0}
