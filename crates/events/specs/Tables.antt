@@ -1,4 +1,4 @@
--- The rules of n events whose needs and conflicts stand in tables.
+-- SCAFFOLDING. The rules of n events whose needs and conflicts stand in tables.
 -- Assumes nothing.
 use Prim.Native.Nat.{ℕ}
 use mathlib.Core.List.{List}

@@ -9,9 +9,11 @@ use lib.Dec.{leb}
 use lib.ListN.{length, getD, take, drop, length-drop, length-take}
 use lib.Seq.{drop-drop}
 use borrow.Author.Tests.{eq-eqb, leb-true}
+use Rattle.meaning.specs.Limits.{rootLeast, ofRoot, ofNode}
 use Rattle.meaning.specs.Records.{marked, kindOf}
-use Rattle.meaning.specs.Sheet.{kinds, kindAt, knownKind, nodeFits, payload, behind, whole, fits, framed, itemOf, itemAt}
+use Rattle.meaning.specs.Sheet.{Known, kinds, kindAt, knownKind, nodeFits, payload, behind, whole, fits, framed, itemOf, itemAt}
 use Rattle.laws.proofs.Quantifiers.{and-left, and-right}
+use Rattle.laws.proofs.Accepted.{framed-known}
 use Rattle.records.specs.declared.Frame.{Frame}
 use Rattle.records.specs.Frames.{frameAt}
 use Rattle.faults.specs.Tallies.{Inside, payloadIn, itemIn}
@@ -37,9 +39,9 @@ module _ (s : List ℕ) (at : ℕ) (e : framed (drop at s) ≡ true) where
   pub frame-at : at < length s
   frame-at = let w = room in omega (arith, length-drop at s)
 
-  pub frame-known : (1 ≤ f .kind) × (f .kind ≤ 5)
-  unfolding frameAt knownKind kinds
-  frame-known = (leb-true 1 (kindOf r) (and-left (leb 1 (kindOf r)) _ (parts .1)), leb-true (kindOf r) 5 (and-right (leb 1 (kindOf r)) _ (parts .1)))
+  pub frame-known : Known (f .kind)
+  unfolding frameAt
+  frame-known = framed-known r e
 
   pub frame-inside : Inside s f
   unfolding frameAt
@@ -61,18 +63,20 @@ module _ (s : List ℕ) (at : ℕ) (e : framed (drop at s) ≡ true) where
   unfolding frameAt behind
   frame-behind = let w : at + (4 + getD r 3 0) ≡ at + 4 + getD r 3 0 = omega arith in sym (drop-drop (4 + getD r 3 0) at s ∙ ap (λ (n : ℕ). drop n s) w)
 
-  pub frame-node : f .kind ≡ 5 → nodeFits (payloadIn s f) ≡ true
+  pub frame-node : f .kind ≡ ofNode → nodeFits (payloadIn s f) ≡ true
   unfolding frameAt fits
   frame-node q =
       rw frame-payload
-      (subst (λ (t : Bool). (not t || nodeFits (payload r)) ≡ true) (eq-eqb (kindOf r) 5 q)
+      (subst (λ (t : Bool). (not t || nodeFits (payload r)) ≡ true) (eq-eqb (kindOf r) ofNode q)
       (and-right (leb (kindAt (kindOf r) .least) (length (payload r)) && leb (length (payload r)) (kindAt (kindOf r) .greatest)) _ (parts .2)))
 
-  -- a root has an access, an event and a path of two bytes at least
-  pub frame-root : f .kind ≡ 4 → 4 ≤ f .len
+  -- a root has an access, an event and a path that is not too short
+  pub frame-root : f .kind ≡ ofRoot → 2 + rootLeast ≤ f .len
   unfolding frameAt fits kinds kindAt payload
   frame-root q =
-      let size = leb-true (kindAt (kindOf r) .least) (length (payload r)) (and-left (leb (kindAt (kindOf r) .least) (length (payload r))) _ (and-left (leb (kindAt (kindOf r) .least) (length (payload r)) && leb (length (payload r)) (kindAt (kindOf r) .greatest)) _ (parts .2))) in
-      let four : 4 ≤ length (payload r) = subst (λ (k : ℕ). kindAt k .least ≤ length (payload r)) q size in
+      let long-enough = leb (kindAt (kindOf r) .least) (length (payload r)) in
+      let short-enough = leb (length (payload r)) (kindAt (kindOf r) .greatest) in
+      let size = leb-true (kindAt (kindOf r) .least) (length (payload r)) (and-left long-enough short-enough (and-left (long-enough && short-enough) _ (parts .2))) in
+      let enough : 2 + rootLeast ≤ length (payload r) = subst (λ (k : ℕ). kindAt k .least ≤ length (payload r)) q size in
       let short = length-take (getD r 3 0) (drop 4 r) in
       omega arith

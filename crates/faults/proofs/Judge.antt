@@ -1,60 +1,41 @@
 -- The fault of a record, one law for each way out, in the terms in which code finds it.
 -- Assumes nothing.
-use Prim.Native.Nat.{ℕ, zero, suc, _-_, _≤_}
+use Prim.Native.Nat.{ℕ, _-_}
 use mathlib.Core.Path.{_≡_, refl}
 use mathlib.Core.Bool.{Bool, true, false, not}
 use mathlib.Core.List.{List, [], _∷_}
-use native.Mathlib.Omega.{arith}
 use lib.Dec.{leb}
 use lib.ListN.{getD, drop, List·getD-map}
-use borrow.Author.Tests.{ne-eqb}
+use Rattle.meaning.specs.Limits.{causesMost, conflictsMost, rootsMost, nodesMost, ofRoot, ofNode}
 use Rattle.meaning.specs.Path.{wellFormed}
-use Rattle.meaning.specs.Sheet.{Kind, kinds, kindAt, kindNumber, itemOf, keyOf, disordered, soFar, inRange, rootFormed, itemFault}
+use Rattle.meaning.specs.Sheet.{Known, Kind, kinds, kindAt, kindNumber, rootIn, itemOf, keyOf, disordered, soFar, inRange, rootFormed, itemFault}
 use Rattle.records.specs.declared.Frame.{Frame}
 use Rattle.faults.specs.declared.Tally.{Tally}
 use Rattle.faults.specs.Tallies.{payloadIn, itemIn, tallied}
-use Rattle.faults.proofs.Order.{kind-number}
+use Rattle.laws.proofs.Accepted.{known-cases, kind-of-item}
 
 no-kind : Kind
 no-kind = record { least = 0; greatest = 0; most = 0 }
 
-most-at : (k : ℕ) → getD (1 ∷ 64 ∷ 64 ∷ 16 ∷ 64 ∷ []) (k - 1) 0 ≡ kindAt k .most
+-- the code's list of how many there may be
+abbrev mosts : List ℕ
+mosts = 1 ∷ causesMost ∷ conflictsMost ∷ rootsMost ∷ nodesMost ∷ []
+
+most-at : (k : ℕ) → getD mosts (k - 1) 0 ≡ kindAt k .most
 unfolding kinds kindAt no-kind
 most-at k = List·getD-map (λ (x : Kind). x .most) kinds (k - 1) no-kind
 
-pub so-far-first : (s : List ℕ) (t : Tally) (k : ℕ) (p : List ℕ) → k ≡ 1 → t .last .kind ≡ 0 → soFar (tallied s t) (itemOf k p) ≡ 0
-unfolding soFar itemOf tallied
-so-far-first s t k p e z = rw (e, z)
-
-pub so-far-again : (s : List ℕ) (t : Tally) (k : ℕ) (p : List ℕ) → k ≡ 1 → (t .last .kind ≡ 0 → ⊥) → soFar (tallied s t) (itemOf k p) ≡ 1
-unfolding soFar itemOf tallied
-so-far-again s t k p e n = rw (e, ne-eqb (t .last .kind) 0 n)
-
-pub only-one : (k : ℕ) → 1 ≤ k → k ≤ 5 → (k ≡ 2 → ⊥) → (k ≡ 3 → ⊥) → (k ≡ 4 → ⊥) → (k ≡ 5 → ⊥) → k ≡ 1
-only-one zero l h a b c d = absurd (omega arith)
-only-one (suc zero) l h a b c d = refl
-only-one (suc (suc zero)) l h a b c d = absurd (a refl)
-only-one (suc (suc (suc zero))) l h a b c d = absurd (b refl)
-only-one (suc (suc (suc (suc zero)))) l h a b c d = absurd (c refl)
-only-one (suc (suc (suc (suc (suc zero))))) l h a b c d = absurd (d refl)
-only-one (suc (suc (suc (suc (suc (suc k)))))) l h a b c d = absurd (omega arith)
-
-pub root-formed : (k : ℕ) (p : List ℕ) → k ≡ 4 → rootFormed (itemOf k p) ≡ wellFormed (drop 2 p)
-unfolding rootFormed itemOf
+pub root-formed : (k : ℕ) (p : List ℕ) → k ≡ ofRoot → rootFormed (itemOf k p) ≡ wellFormed (drop 2 p)
+unfolding rootFormed itemOf rootIn
 root-formed k p e = rw e
 
-pub no-root : (k : ℕ) (p : List ℕ) → 1 ≤ k → k ≤ 5 → (k ≡ 4 → ⊥) → rootFormed (itemOf k p) ≡ true
+pub no-root : (p : List ℕ) (k : ℕ) → Known k → (k ≡ ofRoot → ⊥) → rootFormed (itemOf k p) ≡ true
 unfolding rootFormed itemOf
-no-root zero p l h n = absurd (omega arith)
-no-root (suc zero) p l h n = refl
-no-root (suc (suc zero)) p l h n = refl
-no-root (suc (suc (suc zero))) p l h n = refl
-no-root (suc (suc (suc (suc zero)))) p l h n = absurd (n refl)
-no-root (suc (suc (suc (suc (suc zero))))) p l h n = refl
-no-root (suc (suc (suc (suc (suc (suc k)))))) p l h n = absurd (omega arith)
+no-root p =
+    known-cases (λ k. (k ≡ ofRoot → ⊥) → rootFormed (itemOf k p) ≡ true) (λ n. refl) (λ n. refl) (λ n. refl) (λ n. absurd (n refl)) (λ n. refl)
 
 -- what the four tests of a record say, as code calls them
-module _ (s : List ℕ) (t : Tally) (f : Frame) (l : 1 ≤ f .kind) (h : f .kind ≤ 5) (q p : List ℕ) (eq : q ≡ payloadIn s (t .last)) (ep : p ≡ payloadIn s f) where
+module _ (s : List ℕ) (t : Tally) (f : Frame) (known : Known (f .kind)) (q p : List ℕ) (eq : q ≡ payloadIn s (t .last)) (ep : p ≡ payloadIn s f) where
   abbrev T : Rattle.meaning.specs.Sheet.Tally
   T = tallied s t
 
@@ -73,24 +54,32 @@ module _ (s : List ℕ) (t : Tally) (f : Frame) (l : 1 ≤ f .kind) (h : f .kind
   unfolding itemFault
   fault-order d e y = rw (fault-by, order-by, ← e, y)
 
-  module _ (d : Bool) (e : d ≡ out) (y : d ≡ false) (n : ℕ) (en : n ≡ soFar T (itemOf (f .kind) p)) where
-    room : (b : Bool) → leb (getD (1 ∷ 64 ∷ 64 ∷ 16 ∷ 64 ∷ []) (f .kind - 1) 0) n ≡ b → leb (kindAt (kindNumber (itemOf (f .kind) p)) .most) (soFar T (itemOf (f .kind) p)) ≡ b
-    room b x = rw (kind-number (f .kind) l h p, ← most-at (f .kind), ← en) x
+  -- how many of the kind there were, and may be
+  abbrev n : ℕ
+  n = getD (t .seen) (f .kind - 1) 0
 
-    pub fault-most : leb (getD (1 ∷ 64 ∷ 64 ∷ 16 ∷ 64 ∷ []) (f .kind - 1) 0) n ≡ true → 15 ≡ itemFault T (itemIn s f)
+  abbrev most : ℕ
+  most = getD mosts (f .kind - 1) 0
+
+  module _ (d : Bool) (e : d ≡ out) (y : d ≡ false) where
+    room : (b : Bool) → leb most n ≡ b → leb (kindAt (kindNumber (itemOf (f .kind) p)) .most) (soFar T (kindNumber (itemOf (f .kind) p))) ≡ b
+    unfolding soFar tallied
+    room b x = rw (kind-of-item (f .kind) known p, ← most-at (f .kind)) x
+
+    pub fault-most : leb most n ≡ true → 15 ≡ itemFault T (itemIn s f)
     unfolding itemFault
     fault-most x = rw (fault-by, order-by, ← e, y, room true x)
 
-    module _ (x : leb (getD (1 ∷ 64 ∷ 64 ∷ 16 ∷ 64 ∷ []) (f .kind - 1) 0) n ≡ false) (g : Bool) (eg : g ≡ inRange (t .events) (t .nodes) (itemOf (f .kind) p)) where
+    module _ (x : leb most n ≡ false) (g : Bool) (eg : g ≡ inRange (t .events) (getD (t .seen) (ofNode - 1) 0) (itemOf (f .kind) p)) where
       pub fault-range : g ≡ false → 13 ≡ itemFault T (itemIn s f)
-      unfolding itemFault tallied
+      unfolding itemFault tallied soFar
       fault-range z = rw (fault-by, order-by, ← e, y, room false x, ← eg, z)
 
       module _ (z : g ≡ true) (m : Bool) (em : m ≡ not (rootFormed (itemOf (f .kind) p))) where
         pub fault-form : m ≡ true → 14 ≡ itemFault T (itemIn s f)
-        unfolding itemFault tallied
+        unfolding itemFault tallied soFar
         fault-form w = rw (fault-by, order-by, ← e, y, room false x, ← eg, z, ← em, w)
 
         pub fault-none : m ≡ false → 0 ≡ itemFault T (itemIn s f)
-        unfolding itemFault tallied
+        unfolding itemFault tallied soFar
         fault-none w = rw (fault-by, order-by, ← e, y, room false x, ← eg, z, ← em, w)

@@ -11,8 +11,10 @@ use lib.Dec.{eqb, ltb}
 use lib.ListN.{length, getD, drop, drop-of-length-le}
 use lib.Seq.{drop-cons}
 use borrow.Author.Tests.{lt-ltb, le-ltb, eq-eqb, ne-eqb}
+use Rattle.meaning.specs.Limits.{ofCount, ofRoot, ofNode}
 use Rattle.meaning.specs.Lists.{isEmpty}
-use Rattle.meaning.specs.Sheet.{kindNumber, itemOf, keyOf, ascends, disordered}
+use Rattle.meaning.specs.Sheet.{Known, rootIn, itemOf, keyOf, ascends, disordered}
+use Rattle.laws.proofs.Accepted.{known-cases, kind-of-item}
 
 -- the order of two first bytes, where it decides and where it does not
 module _ (x y : ℕ) (xs ys : List ℕ) where
@@ -67,36 +69,33 @@ ascends-one x y = go (ltb x y) (eqb x y)
 
 -- behind its first byte: of a root the path, of a pair the second byte
 unfoldable pub keyTail : ℕ → List ℕ → List ℕ
-keyTail k p = cond (eqb k 4) (drop 2 p) (getD p 1 0 ∷ [])
+keyTail k p = cond (eqb k ofRoot) (drop 2 p) (getD p 1 0 ∷ [])
 
 -- a payload may follow: it has no key, or its key is greater
 abbrev pub Follows : ℕ → List ℕ → List ℕ → Bool
 Follows k last p = isEmpty (keyOf (itemOf k p)) || ascends (keyOf (itemOf k last)) (keyOf (itemOf k p))
 
-pub keyless : (k : ℕ) → (last p : List ℕ) → (k ≡ 1) ⊎ (k ≡ 5) → Follows k last p ≡ true
+pub keyless : (k : ℕ) → (last p : List ℕ) → (k ≡ ofCount) ⊎ (k ≡ ofNode) → Follows k last p ≡ true
 unfolding itemOf keyOf isEmpty
 keyless k last p (inl e) = rw e
 keyless k last p (inr e) = rw e
 
 pub keyed :
-    (k : ℕ) → 1 ≤ k → k ≤ 5 → (k ≡ 1 → ⊥) → (k ≡ 5 → ⊥) → (last p : List ℕ)
+    (last p : List ℕ) (k : ℕ) → Known k → (k ≡ ofCount → ⊥) → (k ≡ ofNode → ⊥)
     → Follows k last p ≡ ascends (getD last 0 0 ∷ keyTail k last) (getD p 0 0 ∷ keyTail k p)
-unfolding itemOf keyOf isEmpty keyTail
-keyed zero a b c d last p = absurd (omega arith)
-keyed (suc zero) a b c d last p = absurd (c refl)
-keyed (suc (suc zero)) a b c d last p = refl
-keyed (suc (suc (suc zero))) a b c d last p = refl
-keyed (suc (suc (suc (suc zero)))) a b c d last p = refl
-keyed (suc (suc (suc (suc (suc zero))))) a b c d last p = absurd (d refl)
-keyed (suc (suc (suc (suc (suc (suc k)))))) a b c d last p = absurd (omega arith)
+unfolding itemOf rootIn keyOf isEmpty keyTail
+keyed last p =
+    known-cases
+    (λ k. (k ≡ ofCount → ⊥) → (k ≡ ofNode → ⊥) → Follows k last p ≡ ascends (getD last 0 0 ∷ keyTail k last) (getD p 0 0 ∷ keyTail k p))
+    (λ c d. absurd (c refl)) (λ c d. refl) (λ c d. refl) (λ c d. refl) (λ c d. absurd (d refl))
 
 -- what code finds of the first bytes x and y of two payloads of a kind with keys
 module _
-    (k : ℕ) (last p : List ℕ) (a : 1 ≤ k) (b : k ≤ 5) (c : k ≡ 1 → ⊥) (d : k ≡ 5 → ⊥)
+    (k : ℕ) (last p : List ℕ) (known : Known k) (c : k ≡ ofCount → ⊥) (d : k ≡ ofNode → ⊥)
     (x y : ℕ) (ex : x ≡ getD last 0 0) (ey : y ≡ getD p 0 0)
   where
     by-key : Follows k last p ≡ ascends (x ∷ keyTail k last) (y ∷ keyTail k p)
-    by-key = rw (ex, ey) (keyed k a b c d last p)
+    by-key = rw (ex, ey) (keyed last p k known c d)
 
     pub follows-less : x < y → Follows k last p ≡ true
     follows-less l = by-key ∙ ascends-less x y (keyTail k last) (keyTail k p) l
@@ -105,25 +104,15 @@ module _
     follows-more l = by-key ∙ ascends-more x y (keyTail k last) (keyTail k p) l
 
     module _ (l : y ≤ x) (h : x ≤ y) where
-      pub follows-root : k ≡ 4 → Follows k last p ≡ ascends (drop 2 last) (drop 2 p)
+      pub follows-root : k ≡ ofRoot → Follows k last p ≡ ascends (drop 2 last) (drop 2 p)
       unfolding keyTail
-      follows-root e = by-key ∙ ascends-equal x y (keyTail k last) (keyTail k p) h l ∙ rw (eq-eqb k 4 e)
+      follows-root e = by-key ∙ ascends-equal x y (keyTail k last) (keyTail k p) h l ∙ rw (eq-eqb k ofRoot e)
 
-      pub follows-pair : (k ≡ 4 → ⊥) → Follows k last p ≡ ltb (getD last 1 0) (getD p 1 0)
+      pub follows-pair : (k ≡ ofRoot → ⊥) → Follows k last p ≡ ltb (getD last 1 0) (getD p 1 0)
       unfolding keyTail
       follows-pair n =
           by-key ∙ ascends-equal x y (keyTail k last) (keyTail k p) h l
-          ∙ rw (ne-eqb k 4 n) (ascends-one (getD last 1 0) (getD p 1 0))
-
-pub kind-number : (k : ℕ) → 1 ≤ k → k ≤ 5 → (p : List ℕ) → kindNumber (itemOf k p) ≡ k
-unfolding itemOf kindNumber
-kind-number zero a b p = absurd (omega arith)
-kind-number (suc zero) a b p = refl
-kind-number (suc (suc zero)) a b p = refl
-kind-number (suc (suc (suc zero))) a b p = refl
-kind-number (suc (suc (suc (suc zero)))) a b p = refl
-kind-number (suc (suc (suc (suc (suc zero))))) a b p = refl
-kind-number (suc (suc (suc (suc (suc (suc k)))))) a b p = absurd (omega arith)
+          ∙ rw (ne-eqb k ofRoot n) (ascends-one (getD last 1 0) (getD p 1 0))
 
 -- OUT OF ORDER, one law for each way out
 
@@ -135,29 +124,29 @@ neither : (x y : Bool) → (not x && not y) ≡ not (x || y)
 neither true y = refl
 neither false y = refl
 
-module _ (before k : ℕ) (last p : List ℕ) (a : 1 ≤ k) (b : k ≤ 5) where
+module _ (before k : ℕ) (last p : List ℕ) (known : Known k) where
   abbrev out : Bool
   out = disordered before (keyOf (itemOf before last)) (itemOf k p)
 
-  pub order-first : before ≡ 0 → out ≡ not (eqb k 1)
+  pub order-first : before ≡ 0 → out ≡ not (eqb k ofCount)
   unfolding disordered
-  order-first e = rw (kind-number k a b p, e, le-ltb k 0 (omega arith), ne-eqb k 0 (λ q. omega arith)) (alone (not (eqb k 1)))
+  order-first e = rw (kind-of-item k known p, e, le-ltb k 0 (omega arith), ne-eqb k 0 (λ q. omega arith)) (alone (not (eqb k ofCount)))
 
-  pub order-again : (before ≡ 0 → ⊥) → k ≡ 1 → out ≡ true
+  pub order-again : (before ≡ 0 → ⊥) → k ≡ ofCount → out ≡ true
   unfolding disordered
-  order-again n e = rw (kind-number k a b p, ne-eqb before 0 n, e)
+  order-again n e = rw (kind-of-item k known p, ne-eqb before 0 n, e)
 
-  pub order-down : (before ≡ 0 → ⊥) → (k ≡ 1 → ⊥) → k < before → out ≡ true
+  pub order-down : (before ≡ 0 → ⊥) → (k ≡ ofCount → ⊥) → k < before → out ≡ true
   unfolding disordered
-  order-down n m l = rw (kind-number k a b p, ne-eqb before 0 n, ne-eqb k 1 m, lt-ltb k before l)
+  order-down n m l = rw (kind-of-item k known p, ne-eqb before 0 n, ne-eqb k ofCount m, lt-ltb k before l)
 
-  pub order-up : (before ≡ 0 → ⊥) → (k ≡ 1 → ⊥) → before < k → out ≡ false
+  pub order-up : (before ≡ 0 → ⊥) → (k ≡ ofCount → ⊥) → before < k → out ≡ false
   unfolding disordered
-  order-up n m l = rw (kind-number k a b p, ne-eqb before 0 n, ne-eqb k 1 m, le-ltb k before (omega arith), ne-eqb k before (λ q. omega arith))
+  order-up n m l = rw (kind-of-item k known p, ne-eqb before 0 n, ne-eqb k ofCount m, le-ltb k before (omega arith), ne-eqb k before (λ q. omega arith))
 
-  pub order-same : (before ≡ 0 → ⊥) → (k ≡ 1 → ⊥) → before ≤ k → k ≤ before → out ≡ not (Follows k last p)
+  pub order-same : (before ≡ 0 → ⊥) → (k ≡ ofCount → ⊥) → before ≤ k → k ≤ before → out ≡ not (Follows k last p)
   unfolding disordered
   order-same n m l h =
       let e : before ≡ k = omega arith in
-      rw (kind-number k a b p, ne-eqb before 0 n, ne-eqb k 1 m, le-ltb k before (omega arith), eq-eqb k before (sym e), e)
+      rw (kind-of-item k known p, ne-eqb before 0 n, ne-eqb k ofCount m, le-ltb k before (omega arith), eq-eqb k before (sym e), e)
       (neither (isEmpty (keyOf (itemOf k p))) (ascends (keyOf (itemOf k last)) (keyOf (itemOf k p))))

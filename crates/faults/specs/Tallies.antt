@@ -1,4 +1,4 @@
--- A record in its sheet, and the tally that code keeps of the records before it.
+-- SCAFFOLDING. A record in its sheet, and the tally that code keeps of the records before it.
 -- Assumes nothing.
 use Prim.Native.Nat.{ℕ, _+_, _≤_}
 use mathlib.Core.List.{List}
@@ -25,8 +25,5 @@ tallied s t =
       kind = t .last .kind;
       key = keyOf (itemIn s (t .last));
       events = t .events;
-      causes = t .causes;
-      conflicts = t .conflicts;
-      roots = t .roots;
-      nodes = t .nodes;
+      seen = t .seen;
     }

@@ -1,10 +1,9 @@
 // The order of records: what stands in a payload, and whether one record may follow another.
 ghost use mathlib.Core.Path.{_≡_};
 ghost use mathlib.Core.Bool.{_||_};
-ghost use Prim.Native.Nat.{_≤_};
 ghost use lib.ListN.{getD, drop};
 ghost use Rattle.meaning.specs.Lists.{isEmpty};
-ghost use Rattle.meaning.specs.Sheet.{itemOf, keyOf, ascends as ascendsBytes, disordered as disorderedItem};
+ghost use Rattle.meaning.specs.Sheet.{Known, itemOf, keyOf, ascends as ascendsBytes, disordered as disorderedItem};
 
 // The byte at i, 0 past the end.
 pub fn byte(p: &[u8], i: usize) -> u8
@@ -45,13 +44,13 @@ fn ascends(x: &[u8], y: &[u8]) -> bool
 
 // Whether a payload may stand behind another of its kind.
 fn follows(kind: u8, last: &[u8], p: &[u8]) -> bool
-    requires { ⌜ (1 ≤ kind) × (kind ≤ 5) ⌝ }
+    requires { ⌜ Known kind ⌝ }
     ensures { λ r. ⌜ r ≡ (isEmpty (keyOf (itemOf kind (now (p .entry)))) || ascendsBytes (keyOf (itemOf kind (now (last .entry)))) (keyOf (itemOf kind (now (p .entry))))) ⌝ }
 {
-    if kind == 1 {
+    if kind == limits::COUNT {
         return true;
     }
-    if kind == 5 {
+    if kind == limits::NODE {
         return true;
     }
     let a = byte(last, 0);
@@ -62,7 +61,7 @@ fn follows(kind: u8, last: &[u8], p: &[u8]) -> bool
     if b < a {
         return false;
     }
-    if kind == 4 {
+    if kind == limits::ROOT {
         return ascends(tail(last), tail(p));
     }
     byte(last, 1) < byte(p, 1)
@@ -70,13 +69,13 @@ fn follows(kind: u8, last: &[u8], p: &[u8]) -> bool
 
 // Whether a record is out of order behind the last one, of kind 0 where there is none.
 pub fn disordered(before: u8, last: &[u8], kind: u8, p: &[u8]) -> bool
-    requires { ⌜ (1 ≤ kind) × (kind ≤ 5) ⌝ }
+    requires { ⌜ Known kind ⌝ }
     ensures { λ r. ⌜ r ≡ disorderedItem before (keyOf (itemOf before (now (last .entry)))) (itemOf kind (now (p .entry))) ⌝ }
 {
     if before == 0 {
-        return kind != 1;
+        return kind != limits::COUNT;
     }
-    if kind == 1 {
+    if kind == limits::COUNT {
         return true;
     }
     if kind < before {

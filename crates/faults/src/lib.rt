@@ -1,9 +1,7 @@
 // The fault of one record: whether it is out of order, one too many, out of range or a malformed root, judged by a tally of the records before it.
 ghost use mathlib.Core.Path.{_≡_};
 ghost use mathlib.Core.Bool.{not};
-ghost use mathlib.Core.List.{List};
-ghost use Prim.Native.Nat.{ℕ, _≤_};
-ghost use Rattle.meaning.specs.Sheet.{itemOf, rootFormed, itemFault, soFar};
+ghost use Rattle.meaning.specs.Sheet.{Known, itemOf, rootFormed, itemFault};
 ghost use Rattle.faults.specs.Tallies.{Inside, payloadIn, itemIn, tallied};
 use records::Frame;
 
@@ -11,18 +9,24 @@ pub mod keys;
 pub mod ranges;
 
 // What of the records before a record decides on it: the last of them (of kind 0 where there is none), the number of events, and how many
-// of each other kind there were.
+// of each kind there were, kind 1 first.
 pub struct Tally {
     pub last: Frame,
     pub events: usize,
-    pub causes: usize,
-    pub conflicts: usize,
-    pub roots: usize,
-    pub nodes: usize,
+    pub seen: [usize; limits::KINDS],
 }
 
-// For kinds 1 to 5: how many records there may be.
-const MOST: [usize; 5] = [1, 64, 64, 16, 64];
+// For each kind, from 1 on: how many records there may be.
+const MOST: [usize; limits::KINDS] = [
+    1,
+    limits::CAUSES,
+    limits::CONFLICTS,
+    limits::ROOTS,
+    limits::NODES,
+];
+
+// Where the number of nodes stands among those of each kind.
+const NODES_AT: usize = limits::NODE as usize - 1;
 
 // A record's payload.
 pub fn payload(s: &[u8], f: Frame) -> &[u8]
@@ -34,26 +38,12 @@ pub fn payload(s: &[u8], f: Frame) -> &[u8]
     &s[start..end]
 }
 
-// How many records of the kind there were.
-fn so_far(t: Tally, kind: u8) -> usize
-    requires { ⌜ (1 ≤ kind) × (kind ≤ 5) ⌝ }
-    ensures { λ r. ⌜ ((s p : List ℕ) → r ≡ soFar (tallied s t) (itemOf kind p)) ⌝ }
-{
-    match kind {
-        2 => t.causes,
-        3 => t.conflicts,
-        4 => t.roots,
-        5 => t.nodes,
-        _ => { if t.last.kind == 0 { 0 } else { 1 } }
-    }
-}
-
 // Whether the payload is of a root whose path is malformed.
 fn malformed(kind: u8, p: &[u8]) -> bool
-    requires { ⌜ (1 ≤ kind) × (kind ≤ 5) ⌝ }
+    requires { ⌜ Known kind ⌝ }
     ensures { λ r. ⌜ r ≡ not (rootFormed (itemOf kind (now (p .entry)))) ⌝ }
 {
-    if kind == 4 {
+    if kind == limits::ROOT {
         return !form::well_formed(keys::tail(p));
     }
     false
@@ -61,7 +51,7 @@ fn malformed(kind: u8, p: &[u8]) -> bool
 
 // The number of the fault, or 0.
 pub fn fault(s: &[u8], t: Tally, f: Frame) -> u32
-    requires { ⌜ (Inside (now s) (t .last)) × (Inside (now s) f) × (1 ≤ f .kind) × (f .kind ≤ 5) ⌝ }
+    requires { ⌜ (Inside (now s) (t .last)) × (Inside (now s) f) × Known (f .kind) ⌝ }
     ensures { λ r. ⌜ r ≡ itemFault (tallied (now (s .entry)) t) (itemIn (now (s .entry)) f) ⌝ }
 {
     let kind = f.kind;
@@ -69,8 +59,10 @@ pub fn fault(s: &[u8], t: Tally, f: Frame) -> u32
     let before = last.kind;
     let p = payload(s, f);
     let out = keys::disordered(before, payload(s, last), kind, p);
-    let full = MOST[(kind - 1) as usize] <= so_far(t, kind);
-    let wrong = !ranges::in_range(kind, p, t.events, t.nodes);
+    let k = (kind - 1) as usize;
+    let full = MOST[k] <= t.seen[k];
+    let earlier = t.seen[NODES_AT];
+    let wrong = !ranges::in_range(kind, p, t.events, earlier);
     let odd = malformed(kind, p);
     if out {
         return 12;

@@ -1,4 +1,4 @@
--- How far the first segment goes.
+-- SCAFFOLDING. How far the first segment goes.
 -- Assumes nothing.
 use Prim.Native.Nat.{ℕ, suc}
 use mathlib.Core.Bool.{Bool, true, cond}

@@ -12,12 +12,13 @@ use lib.Seq.{take-append-le}
 use borrow.Author.Tests.{lt-ltb, leb-false, eqb-true}
 use Rattle.meaning.specs.Rules.{Rules}
 use Rattle.meaning.specs.Events.{allowed}
-use Rattle.meaning.specs.History.{keptMost, totalMost, begun, refused, After, orRefused, letGo, keptOf, beginFault, begin}
+use Rattle.meaning.specs.Limits.{keptMost, totalMost}
+use Rattle.meaning.specs.History.{begun, refused, After, orRefused, letGo, keptOf, beginFault, begin}
 use Rattle.laws.proofs.Accepted.{passes}
 use Rattle.sheet.specs.declared.Sheet.{Sheet}
 use Rattle.sheet.specs.Sound.{rulesIn}
 use Rattle.monitor.specs.declared.Begun.{Begun}
-use Rattle.monitor.specs.Calls.{settled, opened, beginOf}
+use Rattle.monitor.specs.Calls.{settled, opened, beginFaultOf, beginOf}
 use Rattle.history.specs.Made.{standing, monitorOf, Lawful}
 use Rattle.history.specs.Answers.{unless, begunTold}
 use Rattle.history.proofs.Loaded.{in-order, empty-allowed}
@@ -83,7 +84,7 @@ module _ (s : Sheet) (h : List ℕ) (w : Lawful s h) where
   after b = cond b (record { told = begun (length h + 1); history = longer }) (record { told = refused fault; history = h })
 
   answer-is : beginOf (monitorOf s h) ≡ answer (eqb fault 0) fault
-  unfolding beginOf beginFault keptOf monitorOf standing answer
+  unfolding beginOf beginFaultOf beginFault keptOf monitorOf standing answer
   answer-is = ap (λ (b : Bool). let n : ℕ = cond b 20 fault in answer (eqb n 0) n) (not-bad s h w)
 
   after-is : begin r keptMost h ≡ after (eqb fault 0)

@@ -8,7 +8,8 @@ use native.Mathlib.Omega.{arith}
 use Rattle.meaning.specs.Lists.{all}
 use Rattle.meaning.specs.Refusals.{Answer, good, refused}
 use Rattle.meaning.specs.Sheet.{Sheet as Lists, sheetOf}
-use Rattle.meaning.specs.History.{keptMost, letGo, keptOf, begin, recordIn, check, counts}
+use Rattle.meaning.specs.Limits.{keptMost}
+use Rattle.meaning.specs.History.{letGo, keptOf, begin, recordIn, check, counts}
 use Rattle.meaning.specs.Image.{Image, imageBytes, imageOf, save, readImage}
 use Rattle.sheet.specs.declared.Sheet.{Sheet}
 use Rattle.sheet.specs.Loads.{stored}

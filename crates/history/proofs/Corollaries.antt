@@ -13,7 +13,8 @@ use Rattle.meaning.specs.Sets.{mem, added}
 use Rattle.meaning.specs.Rules.{Rules}
 use Rattle.meaning.specs.Events.{closed}
 use Rattle.meaning.specs.Policy.{session}
-use Rattle.meaning.specs.History.{recorded, refused, After, orRefused, keptMost, beginFault, recordFault, recordIn, withSession}
+use Rattle.meaning.specs.Limits.{keptMost}
+use Rattle.meaning.specs.History.{recorded, refused, After, orRefused, beginFault, recordFault, recordIn, withSession}
 use Rattle.meaning.specs.History
 use Rattle.laws.proofs.Quantifiers.{or-left, or-right, or-false}
 use Rattle.laws.proofs.Accepted.{passes}

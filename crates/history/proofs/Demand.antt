@@ -14,7 +14,8 @@ use borrow.Author.Tests.{ne-eqb, ltb-true, ltb-false, le-leb, lt-leb}
 use Rattle.meaning.specs.Rules.{Rules}
 use Rattle.meaning.specs.Refusals.{Answer, good}
 use Rattle.meaning.specs.Sheet.{Sheet as Lists, sheetOf, rulesOf}
-use Rattle.meaning.specs.History.{After, restored, refused, keptMost}
+use Rattle.meaning.specs.Limits.{keptMost}
+use Rattle.meaning.specs.History.{After, restored, refused}
 use Rattle.meaning.specs.History
 use Rattle.meaning.specs.Image.{Image, imageBytes, imageOf, save, misshapen, unlawful, said, readImage}
 use Rattle.laws.proofs.Accepted.{sheet-nonzero}
@@ -33,7 +34,8 @@ use Rattle.image.specs.declared.Restored.{Restored}
 use Rattle.image.specs.Images.{imageIn, saveFault, saveOf, bufferAfter, restoredAs, restoreOf}
 use Rattle.history.specs.Made.{monitorOf, Lawful, Made}
 use Rattle.history.specs.Answers.{unless, begunTold, recordedTold, checkedTold, countedTold, savedTold, restoredTold}
-use Rattle.history.specs.Sequences.{Call, begin, check, counts, anew, recording, saving, restoring, Heard, heard, left, silence, Moment, Past, nothingYet, _among_, follows, afterSaving, Returns, Refuses, Goes, Whole, Hands, wroteToo, SavedBefore, Answers, Run, Fresh, ByTheHistory, Demand3}
+use Rattle.history.specs.Sequences.{Call, begin, check, counts, anew, recording, saving, restoring, Heard, heard, left, silence, Moment, Past, nothingYet}
+use Rattle.history.specs.Sequences.{_among_, follows, afterSaving, Returns, Refuses, Goes, Whole, Hands, wroteToo, SavedBefore, Answers, Run, Fresh, ByTheHistory, Demand3}
 use Rattle.history.proofs.Loaded.{rules-stored}
 use Rattle.history.proofs.Standing.{not-bad}
 use Rattle.history.proofs.Images.{image-is, sheet-is}

@@ -18,7 +18,8 @@ use Rattle.meaning.specs.Rules.{Rules}
 use Rattle.meaning.specs.Events.{allowed, closed}
 use Rattle.meaning.specs.Policy.{row}
 use Rattle.meaning.specs.Refusals.{good}
-use Rattle.meaning.specs.History.{saved, refused, keptMost, letGo, keptOf, carried}
+use Rattle.meaning.specs.Limits.{eventsMost, keptMost, setLength, wordBits}
+use Rattle.meaning.specs.History.{saved, refused, letGo, keptOf, carried}
 use Rattle.meaning.specs.Image.{Saving, imageBytes, imageOf, save, oldestClosed, unlawful, readImage}
 use Rattle.sheet.specs.declared.Sheet.{Sheet}
 use Rattle.sheet.specs.Sound.{rulesIn}
@@ -29,7 +30,7 @@ use Rattle.image.specs.Images.{imageIn, saveFault, saveOf, bufferAfter, monitor
 use Rattle.image.proofs.ReadBack.{Writable, said-again, formed-again}
 use Rattle.history.specs.Made.{rowsOf, standing, monitorOf, Lawful}
 use Rattle.history.specs.Answers.{unless, savedTold}
-use Rattle.history.proofs.Lists.{filled-take, filled-at}
+use Rattle.window.proofs.Filled.{filled-take, filled-at}
 use Rattle.history.proofs.Loaded.{in-order}
 use Rattle.history.proofs.Rows.{refreshed-rows}
 use Rattle.window.proofs.Moves.{front-le}
@@ -78,10 +79,10 @@ zeros-join : (a b : ℕ) → zeros a ++ zeros b ≡ zeros (a + b)
 zeros-join zero b = ap zeros (sym (zero-add b))
 zeros-join (suc a) b = ap (λ (l : List ℕ). 0 ∷ l) (zeros-join a b) ∙ ap zeros (sym (suc-add a b))
 
-zeros-fill : (n : ℕ) → n ≤ 64 → filled (zeros n) ≡ zeros 64
+zeros-fill : (n : ℕ) → n ≤ keptMost → filled (zeros n) ≡ zeros keptMost
 unfolding filled
 zeros-fill n l =
-    ap (λ (k : ℕ). zeros n ++ zeros (64 - k)) (length-replicate n 0) ∙ zeros-join n (64 - n) ∙ ap zeros (let e : n + (64 - n) ≡ 64 = omega arith in e)
+    ap (λ (k : ℕ). zeros n ++ zeros (keptMost - k)) (length-replicate n 0) ∙ zeros-join n (keptMost - n) ∙ ap zeros (let e : n + (keptMost - n) ≡ keptMost = omega arith in e)
 
 pub sheet-is : (s : Sheet) (h : List ℕ) → monitorOf s h .sheet ≡ s
 unfolding monitorOf standing
@@ -102,7 +103,7 @@ module _ (s : Sheet) (h : List ℕ) (w : Lawful s h) where
   -- the image of the monitor is the image of the history
   pub image-is : imageIn m ≡ imageOf r h
   unfolding imageIn imageOf monitorOf standing keptOf carried
-  image-is = rw (filled-take (drop (letGo r h) h))
+  image-is = rw (filled-take (drop (letGo r h) h) (length (drop (letGo r h) h)) refl)
 
   -- What save tells is what the history says, and it leaves the same bytes in the buffer.
   pub saved-told : (buffer : List ℕ) → savedTold (saveOf m buffer) ≡ save r h buffer .told
@@ -133,10 +134,11 @@ module _ (s : Sheet) (h : List ℕ) (w : Lawful s h) where
       record {
         total-fits = omega arith;
         gone-fits = omega arith;
-        row-fits = below (s .nodes) 64 (row r h (letGo r h)) f (row-inside r h (letGo r h));
+        row-fits = below (s .nodes) wordBits (row r h (letGo r h)) f (row-inside r h (letGo r h));
         sets-fit =
-            all-drop (λ x. ltb x (256 ^ 4)) (letGo r h) h
-            (all-weaker (λ x. ltb x (2 ^ (s .events))) (λ x. ltb x (256 ^ 4)) (λ x t. lt-ltb x (256 ^ 4) (below (s .events) 32 x e (ltb-true x (2 ^ (s .events)) t))) h (w .inside));
+            all-drop (λ x. ltb x (256 ^ setLength)) (letGo r h) h
+            (all-weaker (λ x. ltb x (2 ^ (s .events))) (λ x. ltb x (256 ^ setLength))
+            (λ x t. lt-ltb x (256 ^ setLength) (below (s .events) eventsMost x e (ltb-true x (2 ^ (s .events)) t))) h (w .inside));
         few = w .few;
         counted = sym (kept-count r h);
         none-carried = λ z. rw z;
@@ -166,7 +168,7 @@ module _ (s : Sheet) (h : List ℕ) (w : Lawful s h) where
 
   -- rows made anew are the rows of the history
   rows-again :
-      refreshed r (row r h (letGo r h)) (filled (drop (letGo r h) h)) (zeros 64) 0 (length (drop (letGo r h) h))
+      refreshed r (row r h (letGo r h)) (filled (drop (letGo r h) h)) (zeros keptMost) 0 (length (drop (letGo r h) h))
       ≡ filled (rowsOf r h (letGo r h) (length (drop (letGo r h) h)))
   unfolding rowsOf keptOf
   rows-again =

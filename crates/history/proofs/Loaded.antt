@@ -10,6 +10,7 @@ use lib.Dec.{eqb, leb, ltb}
 use lib.ListN.{length, getD, List·getD-eq-default}
 use lib.Pow.{pow-pos}
 use borrow.Author.Tests.{ltb-true, ltb-false, eqb-true, not-true}
+use Rattle.meaning.specs.Limits.{eventsMost, nodesMost}
 use Rattle.meaning.specs.Sets.{every, mem, setOf, within, apart}
 use Rattle.meaning.specs.Rules.{Node, Rules, nodeInRange, inOrder}
 use Rattle.meaning.specs.Events.{somePair, chain, neededBy, conflictingWith, possible, supported, allowed, addable, closed}
@@ -18,7 +19,7 @@ use Rattle.meaning.specs.Sheet.{Sheet as Lists, Reading, sheetOf, rulesOf}
 use Rattle.laws.proofs.Quantifiers.{or-cases, or-comm, and-left, and-right, every-each, every-if}
 use Rattle.laws.proofs.SetLaws.{mem-zero, mem-setOf, setOf-lt, set-ext}
 use Rattle.laws.proofs.Chains.{some-pair-where, chain-sound, chain-ends}
-use Rattle.laws.proofs.Accepted.{Lawful, accepted}
+use Rattle.laws.proofs.Accepted.{Lawful, few-nodes, accepted}
 use Rattle.sheet.specs.declared.Sheet.{Sheet}
 use Rattle.sheet.specs.Loads.{tableOf, kindOfNode, leftOf, rightOf, stored}
 use Rattle.sheet.specs.Sound.{soundEvent, soundNode, sound, rulesIn}
@@ -50,13 +51,13 @@ module _ (g : Reading) (w : Lawful g) where
   l = g .lists
 
   -- an event beyond the sheet's needs nothing, and conflicts with nothing
-  needs-beyond : (e : ℕ) → 32 ≤ e → neededBy (l .causes) (l .events) e ≡ 0
+  needs-beyond : (e : ℕ) → eventsMost ≤ e → neededBy (l .causes) (l .events) e ≡ 0
   unfolding neededBy
   needs-beyond e h =
       none-in (l .events) (λ a. chain (l .causes) (l .events) a e)
       (λ a t. let c = chain-ends (l .causes) (l .events) (w .causes-up) (chain-sound (l .causes) (l .events) a e t) in let few = w .few-events in omega arith)
 
-  conflicts-beyond : (e : ℕ) → 32 ≤ e → conflictingWith (l .conflicts) (l .events) e ≡ 0
+  conflicts-beyond : (e : ℕ) → eventsMost ≤ e → conflictingWith (l .conflicts) (l .events) e ≡ 0
   unfolding conflictingWith
   conflicts-beyond e h = none-in (l .events) (λ m. somePair (l .conflicts) (pairs m)) none
     where
@@ -78,22 +79,22 @@ module _ (g : Reading) (w : Lawful g) where
   unfolding rulesIn stored kindOfNode leftOf rightOf
   node-stored n =
       rw (
-        table-all 64 (λ i. kindOfNode (getD (l .nodes) i Node.always)) (λ i h. ap kindOfNode (beyond i h)) n,
-        table-all 64 (λ i. leftOf (getD (l .nodes) i Node.always)) (λ i h. ap leftOf (beyond i h)) n,
-        table-all 64 (λ i. rightOf (getD (l .nodes) i Node.always)) (λ i h. ap rightOf (beyond i h)) n,
+        table-all nodesMost (λ i. kindOfNode (getD (l .nodes) i Node.always)) (λ i h. ap kindOfNode (beyond i h)) n,
+        table-all nodesMost (λ i. leftOf (getD (l .nodes) i Node.always)) (λ i h. ap leftOf (beyond i h)) n,
+        table-all nodesMost (λ i. rightOf (getD (l .nodes) i Node.always)) (λ i h. ap rightOf (beyond i h)) n,
       )
       (node-again (getD (l .nodes) n Node.always) .1)
     where
-      beyond : (i : ℕ) → 64 ≤ i → getD (l .nodes) i Node.always ≡ Node.always
-      beyond i h = let few = w .few-nodes in List·getD-eq-default (l .nodes) Node.always {n = i} (omega arith)
+      beyond : (i : ℕ) → nodesMost ≤ i → getD (l .nodes) i Node.always ≡ Node.always
+      beyond i h = let few = few-nodes g w in List·getD-eq-default (l .nodes) Node.always {n = i} (omega arith)
 
   lawful-rules : rulesIn (stored l) ≡ rulesOf l
   unfolding rulesIn stored rulesOf
   lawful-rules = λ i.
       record {
         events = l .events;
-        needs = fun-ext (table-all 32 (neededBy (l .causes) (l .events)) needs-beyond) i;
-        conflicts = fun-ext (table-all 32 (conflictingWith (l .conflicts) (l .events)) conflicts-beyond) i;
+        needs = fun-ext (table-all eventsMost (neededBy (l .causes) (l .events)) needs-beyond) i;
+        conflicts = fun-ext (table-all eventsMost (conflictingWith (l .conflicts) (l .events)) conflicts-beyond) i;
         nodes = length (l .nodes);
         node = fun-ext node-stored i;
       }
@@ -131,14 +132,16 @@ module _ (s : Sheet) (ok : sound s ≡ true) where
   event-sound : (e : ℕ) → e < s .events → (r .needs e < 2 ^ e) × (mem e (r .conflicts e) ≡ false)
   unfolding sound soundEvent rulesIn
   event-sound e l =
-      let counts = leb 1 (s .events) && leb (s .events) 32 && leb 1 (s .nodes) && leb (s .nodes) 64 in
+      let counts = leb 1 (s .events) && leb (s .events) eventsMost && leb 1 (s .nodes) && leb (s .nodes) nodesMost in
       let test : ℕ → Bool = soundEvent (s .needs) (s .conflicts) (s .events) in
       let nodes = every (s .nodes) (soundNode (s .kinds) (s .left) (s .right) (s .events)) in
       let low = ltb (getD (s .needs) e 0) (2 ^ e) in
       let inside = ltb (getD (s .conflicts) e 0) (2 ^ (s .events)) in
       let alone = not (mem e (getD (s .conflicts) e 0)) in
-      let t = every-each test (s .events) e l (and-right counts (every (s .events) test) (and-left (counts && every (s .events) test) nodes ok)) in
-      (ltb-true (getD (s .needs) e 0) (2 ^ e) (and-left low inside (and-left (low && inside) alone t)), not-true (mem e (getD (s .conflicts) e 0)) (and-right (low && inside) alone t))
+      let t = every-each test (s .events) e l (and-right counts (every (s .events) test) (and-left (counts && every (s .events) test) nodes ok)) in (
+        ltb-true (getD (s .needs) e 0) (2 ^ e) (and-left low inside (and-left (low && inside) alone t)),
+        not-true (mem e (getD (s .conflicts) e 0)) (and-right (low && inside) alone t),
+      )
 
   pub not-itself : (e : ℕ) → e < s .events → mem e (r .conflicts e) ≡ false
   not-itself e l = event-sound e l .1

@@ -24,7 +24,8 @@ use Rattle.window.specs.Kept.{filled}
 use Rattle.history.specs.Made.{standing, monitorOf, Lawful}
 use Rattle.history.specs.Answers.{unless, recordedTold}
 use Rattle.history.proofs.Loaded.{in-order, not-itself}
-use Rattle.history.proofs.Lists.{filled-at, all-at, all-set}
+use Rattle.window.proofs.Filled.{filled-at}
+use Rattle.history.proofs.Lists.{all-at, all-set}
 use Rattle.window.proofs.Moves.{front-le}
 use Rattle.history.proofs.Front.{front-closed, run-on, kept-count}
 use Rattle.history.proofs.Standing.{not-bad, settles, written-standing}

@@ -1,4 +1,4 @@
--- When begin is refused for want of room: 64 sessions stand from the first that can still take an event.
+-- When begin is refused for want of room: as many sessions as may be kept stand from the first that can still take an event.
 -- Assumes nothing.
 use Prim.Native.Nat.{ℕ, _+_, _-_, _≤_, _<_}
 use mathlib.Core.Path.{_≡_, refl, sym, ap, _∙_}
@@ -7,15 +7,16 @@ use mathlib.Core.List.{List, [], _∷_, _++_}
 use mathlib.Core.Logic.{_↔_}
 use native.Mathlib.Omega.{arith}
 use lib.Dec.{eqb, leb, ltb}
-use lib.ListN.{length, getD}
+use lib.ListN.{length, getD, drop, length-drop}
 use lib.Seq.{getD-drop}
 use borrow.Author.Tests.{lt-leb, leb-true, leb-false, ltb-true, ltb-false}
 use Rattle.meaning.specs.Rules.{Rules}
 use Rattle.meaning.specs.Events.{closed}
 use Rattle.meaning.specs.Policy.{session}
-use Rattle.meaning.specs.History.{Told, begun, refused, After, orRefused, keptMost, totalMost, letGo, keptOf, beginFault}
+use Rattle.meaning.specs.Limits.{keptMost, totalMost}
+use Rattle.meaning.specs.History.{Told, begun, refused, After, orRefused, letGo, keptOf, beginFault}
 use Rattle.meaning.specs.History
-use Rattle.history.specs.Sequences.{RoomEnough}
+use Rattle.history.specs.Sequences.{FirstOpen, AllClosed, RoomEnough}
 use Rattle.history.proofs.Front.{front-closed, front-open, kept-count}
 
 module _ (r : Rules) (h : List ℕ) where
@@ -42,15 +43,8 @@ module _ (r : Rules) (h : List ℕ) where
       ∙ ap (closed r) (sym (getD-drop (letGo r h) h 0 0))
       ∙ front-open r h (omega (arith, kept-count r h))
 
-  -- session f is the first that can still take an event
-  pub record First (f : ℕ) : Type 0 where
-    pub some : 1 ≤ f
-    pub begun : f ≤ length h
-    pub takes : closed r (session h f) ≡ false
-    pub before : (i : ℕ) → 1 ≤ i → i < f → closed r (session h i) ≡ true
-
   -- the kept sessions are those from the first that can still take an event
-  first-kept : (f : ℕ) → First f → letGo r h + 1 ≡ f
+  first-kept : (f : ℕ) → FirstOpen r h f → letGo r h + 1 ≡ f
   first-kept f w = go (leb f (letGo r h)) refl (ltb (letGo r h + 1) f) refl
     where
       g : ℕ
@@ -63,16 +57,16 @@ module _ (r : Rules) (h : List ℕ) where
           absurd (false≢true (sym (front-takes (omega arith)) ∙ w .before (g + 1) (omega arith) l))
       go false t false u = omega (arith, leb-false f g t, ltb-false (g + 1) f u)
 
-  -- So begin is refused for want of room exactly when 64 sessions stand from the first that can still take an event.
-  pub room-first : length h < totalMost → (f : ℕ) → First f → (beginFault r keptMost h ≡ 27) ↔ (f + keptMost ≤ length h + 1)
+  -- So begin is refused for want of room exactly when as many as may be kept stand from the first that can still take an event.
+  pub room-first : length h < totalMost → (f : ℕ) → FirstOpen r h f → (beginFault r keptMost h ≡ 27) ↔ (f + keptMost ≤ length h + 1)
   room-first l f w =
       let e = first-kept f w in
       let n = kept-count r h in
       (λ t. let m = room l .0 t in omega arith, λ m. room l .1 (omega arith))
 
   -- And never where every session is closed.
-  pub room-closed : length h < totalMost → ((i : ℕ) → 1 ≤ i → i ≤ length h → closed r (session h i) ≡ true) → beginFault r keptMost h ≡ 0
-  unfolding beginFault
+  pub room-closed : length h < totalMost → AllClosed r h → beginFault r keptMost h ≡ 0
+  unfolding beginFault AllClosed
   room-closed l c = rw (lt-leb totalMost (length h) l, lt-leb keptMost (length (keptOf r h)) (go (ltb (letGo r h) (length h)) refl))
     where
       go : (b : Bool) → ltb (letGo r h) (length h) ≡ b → length (keptOf r h) < keptMost
@@ -84,8 +78,14 @@ module _ (r : Rules) (h : List ℕ) where
 -- What begin tells is the fault that it meets.
 pub room-enough : (r : Rules) → RoomEnough r
 unfolding RoomEnough History.begin orRefused
-room-enough r h l = (λ t. room r h l .0 (go (beginFault r keptMost h) t), λ m. rw (room r h l .1 m))
+room-enough r h l = (λ f w. (λ t. from f w (room-first r h l f w .0 (go (beginFault r keptMost h) t)), λ m. rw (room-first r h l f w .1 (to f w m))), λ c. rw (room-closed r h l c))
   where
+    from : (f : ℕ) → FirstOpen r h f → f + keptMost ≤ length h + 1 → keptMost ≤ length (drop (f - 1) h)
+    from f w m = let s = w .some in rw length-drop (omega arith)
+
+    to : (f : ℕ) → FirstOpen r h f → keptMost ≤ length (drop (f - 1) h) → f + keptMost ≤ length h + 1
+    to f w m = let s = w .some in let b = w .begun in let n = length-drop (f - 1) h in omega arith
+
     told : ℕ → Bool → Told
     told n b = (cond {A = After} b (record { told = begun (length h + 1); history = h ++ (0 ∷ []) }) (record { told = refused n; history = h })) .told
 

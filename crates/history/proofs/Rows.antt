@@ -15,7 +15,7 @@ use Rattle.meaning.specs.Steps.{nextRow, rowAfter}
 use Rattle.laws.proofs.Rows.{row-step, row-fold}
 use Rattle.window.specs.Kept.{filled, rowBefore, refreshed}
 use Rattle.history.specs.Made.{rowsOf}
-use Rattle.history.proofs.Lists.{filled-at, filled-set}
+use Rattle.window.proofs.Filled.{filled-at, filled-set}
 
 module _ (r : Rules) (h : List ℕ) where
   pub rows-length : (i n : ℕ) → length (rowsOf r h i n) ≡ n

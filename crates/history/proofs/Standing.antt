@@ -8,6 +8,7 @@ use native.Mathlib.Omega.{arith}
 use lib.ListN.{length, getD, set, take, drop, length-append, length-drop, length-set}
 use lib.Seq.{getD-at, getD-drop, drop-append-le, take-append-le, take-set-le, drop-set-add, drop-drop}
 use borrow.Author.Tests.{le-ltb, eq-eqb}
+use Rattle.meaning.specs.Limits.{keptMost}
 use Rattle.meaning.specs.Sets.{added}
 use Rattle.meaning.specs.Rules.{Rules, inOrder}
 use Rattle.meaning.specs.Policy.{row}
@@ -17,9 +18,10 @@ use Rattle.sheet.specs.declared.Sheet.{Sheet}
 use Rattle.sheet.specs.Sound.{rulesIn}
 use Rattle.window.specs.Kept.{filled, rowBefore, refreshed, moved}
 use Rattle.monitor.specs.declared.Monitor.{Monitor}
-use Rattle.monitor.specs.Calls.{fresh, bad, Fit, settled, opened, written}
+use Rattle.monitor.specs.Calls.{fresh, bad, settled, opened, written}
+use Rattle.monitor.specs.Fits.{Fit}
 use Rattle.history.specs.Made.{rowsOf, standing, monitorOf, Lawful}
-use Rattle.history.proofs.Lists.{filled-at, filled-take, filled-set, filled-more, filled-moved}
+use Rattle.window.proofs.Filled.{filled-at, filled-take, filled-set, filled-more, filled-moved}
 use Rattle.history.proofs.Rows.{rows-length, rows-cut, rows-more, rows-drop, before-is, row-front, rows-front, row-next, refreshed-rows}
 use Rattle.window.proofs.Moves.{front-le}
 use Rattle.history.proofs.Front.{run-on, kept-count}
@@ -40,7 +42,7 @@ unfolding bad
 not-bad s h w =
     let f = fit-made s h w in
     let m : Monitor = monitorOf s h in
-    rw (le-ltb 64 (m .kept) (f .few), eq-eqb (m .gone + m .kept) (m .total) (f .counted), f .sounds)
+    rw (le-ltb keptMost (m .kept) (f .few), eq-eqb (m .gone + m .kept) (m .total) (f .counted), f .sounds)
 
 module _ (s : Sheet) where
   abbrev r : Rules
@@ -79,7 +81,7 @@ module _ (s : Sheet) where
   -- letting go goes on from wherever it stood
   settled-standing : (h : List ℕ) (g : ℕ) → settled (standing s h g) ≡ standing s h (g + letGo r (drop g h))
   unfolding settled standing without
-  settled-standing h g = ap (without h g) (ap (letGo r) (filled-take (drop g h))) ∙ let-go h g (letGo r (drop g h)) (front-le r (drop g h))
+  settled-standing h g = ap (without h g) (ap (letGo r) (filled-take (drop g h) (length (drop g h)) refl)) ∙ let-go h g (letGo r (drop g h)) (front-le r (drop g h))
 
   -- Where the sessions that h let go stand in front of k as they were, letting go makes the monitor of k.
   pub settles :
@@ -93,7 +95,7 @@ module _ (s : Sheet) where
 
     -- an empty session behind the others, with its row
     pub opened-standing :
-        (h : List ℕ) (g : ℕ) → g ≤ length h → length (drop g h) < 64
+        (h : List ℕ) (g : ℕ) → g ≤ length h → length (drop g h) < keptMost
         → opened (standing s h g) ≡ standing s (h ++ (0 ∷ [])) g
     unfolding opened standing
     opened-standing h g l room =

@@ -1,4 +1,4 @@
--- What the answers of calls tell, in the words of the written meaning: the number of the refusal, or what the call says when it is accepted.
+-- BELIEF. What the answers of calls tell, in the words of the written meaning: the number of the refusal, or what the call says when it is accepted.
 -- Assumes nothing.
 use Prim.Native.Nat.{ℕ}
 use mathlib.Core.Bool.{Bool, true, not, cond, _&&_}

@@ -1,4 +1,4 @@
--- The monitor of a history: what its stored counts, sets and rows are when calls made it.
+-- SCAFFOLDING. The monitor of a history: what its stored counts, sets and rows are when calls made it.
 -- Assumes nothing.
 use Prim.Native.Nat.{ℕ, zero, suc, _^_, _≤_, _<_}
 use mathlib.Core.Path.{_≡_}
@@ -11,7 +11,8 @@ use Rattle.meaning.specs.Sets.{mem}
 use Rattle.meaning.specs.Rules.{Rules}
 use Rattle.meaning.specs.Events.{allowed}
 use Rattle.meaning.specs.Policy.{row}
-use Rattle.meaning.specs.History.{keptMost, totalMost, letGo, keptOf}
+use Rattle.meaning.specs.Limits.{keptMost, totalMost}
+use Rattle.meaning.specs.History.{letGo, keptOf}
 use Rattle.sheet.specs.declared.Sheet.{Sheet}
 use Rattle.sheet.specs.Sound.{sound, rulesIn}
 use Rattle.window.specs.Kept.{filled}

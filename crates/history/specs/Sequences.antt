@@ -1,18 +1,21 @@
--- Demand 3: over any sequence of calls each answer is that of the history in which nothing is dropped.
+-- BELIEF. Demand 3: over any sequence of calls each answer is that of the history in which nothing is dropped.
 -- Assumes nothing.
-use Prim.Native.Nat.{ℕ, _≤_, _<_}
+use Prim.Native.Nat.{ℕ, _+_, _-_, _≤_, _<_}
 use mathlib.Core.Path.{_≡_}
-use mathlib.Core.Bool.{cond}
+use mathlib.Core.Bool.{true, false, cond}
 use mathlib.Core.Logic.{_⊎_, _↔_}
 use mathlib.Core.List.{List, [], _∷_}
 use lib.Dec.{eqb, leb}
-use lib.ListN.{length, take}
+use lib.ListN.{length, take, drop}
 use contract.Lifetimes.{Lfts}
 use denote.Ref.{RefT, now}
 use Rattle.meaning.specs.Rules.{Rules}
 use Rattle.meaning.specs.Refusals.{Answer, good}
 use Rattle.meaning.specs.Sheet.{Sheet as Lists, sheetOf, rulesOf}
-use Rattle.meaning.specs.History.{Told, restored, refused, After, keptMost, totalMost, keptOf}
+use Rattle.meaning.specs.Limits.{keptMost, totalMost}
+use Rattle.meaning.specs.Events.{closed}
+use Rattle.meaning.specs.Policy.{session}
+use Rattle.meaning.specs.History.{Told, begun, restored, refused, After}
 use Rattle.meaning.specs.History
 use Rattle.meaning.specs.Image.{Image, imageBytes, imageOf, save, readImage}
 use Rattle.sheet.specs.declared.Loaded.{Loaded}
@@ -166,9 +169,24 @@ module _ (sheet : List ℕ) (r : Rules) where
       → Whole r nothingYet calls answers
       × ((others : List Heard) → Whole r nothingYet calls others → others ≡ answers)
 
--- while session numbers remain, begin is refused for want of room exactly when 64 sessions stand from the first that can still take an event
+-- session f of the history is the first that can still take an event
+pub record FirstOpen (r : Rules) (h : List ℕ) (f : ℕ) : Type 0 where
+  pub some : 1 ≤ f
+  pub begun : f ≤ length h
+  pub takes : closed r (session h f) ≡ false
+  pub before : (i : ℕ) → 1 ≤ i → i < f → closed r (session h i) ≡ true
+
+-- no session of the history can take an event any more
+unfoldable pub AllClosed : Rules → List ℕ → Type 0
+AllClosed r h = (i : ℕ) → 1 ≤ i → i ≤ length h → closed r (session h i) ≡ true
+
+-- While session numbers remain, begin is refused for want of room exactly when 64 sessions (`keptMost`) stand from the first that can still take an event;
+-- and never where none can.
 unfoldable pub RoomEnough : Rules → Type 0
-RoomEnough r = (h : List ℕ) → length h < totalMost → (History.begin r keptMost h .told ≡ refused 27) ↔ (keptMost ≤ length (keptOf r h))
+RoomEnough r =
+    (h : List ℕ) → length h < totalMost
+    → ((f : ℕ) → FirstOpen r h f → (History.begin r keptMost h .told ≡ refused 27) ↔ (keptMost ≤ length (drop (f - 1) h)))
+    × (AllClosed r h → History.begin r keptMost h .told ≡ begun (length h + 1))
 
 -- THE STATEMENT, of every byte string that loads
 unfoldable pub Demand3 : Type 0

@@ -8,6 +8,7 @@ use native.Mathlib.Omega.{arith}
 use lib.Pow.{pow-add}
 use lib.ListN.{length, getD, take, drop}
 use lib.Seq.{drop-cons}
+use Rattle.meaning.specs.Limits.{rowLength}
 use Rattle.meaning.specs.Image.{bytesOf, numberOf}
 
 pub pow-256 : (i : ℕ) → 2 ^ (8 * i) ≡ 256 ^ i
@@ -61,6 +62,6 @@ number-bound n (suc j) value b p l v h =
     let left : n - j ≡ suc (n - suc j) = omega arith in
     rw (one, left, pow-suc 256 (n - suc j)) (omega arith)
 
--- eight bytes' worth is the most
-pub eight : (m x : ℕ) → m ≤ 8 → x < 256 ^ m → x < 18446744073709551616
-eight m x l h = let p : 256 ^ m ≤ 256 ^ 8 = pow-le-pow-right (omega arith) l in omega arith
+-- a row's bytes' worth is the most
+pub row-worth : (m x : ℕ) → m ≤ rowLength → x < 256 ^ m → x < 18446744073709551616
+row-worth m x l h = let p : 256 ^ m ≤ 256 ^ rowLength = pow-le-pow-right (omega arith) l in omega arith

@@ -6,19 +6,20 @@ use mathlib.Core.Bool.{Bool, true, false, false≢true, not}
 use mathlib.Core.List.{List}
 use native.Mathlib.Omega.{arith}
 use lib.ListN.{length, take, replicate}
-use lib.Seq.{take-at}
 use borrow.Author.Tests.{ltb-false}
 use Rattle.laws.proofs.Quantifiers.{or-false}
-use Rattle.meaning.specs.History.{keptMost}
+use Rattle.meaning.specs.Limits.{keptMost, headerLength, sessionLength}
 use Rattle.meaning.specs.Refusals.{Answer, good, refused}
 use Rattle.meaning.specs.Image.{keptIn, said, misshapen, unlawful, readImage}
 use Rattle.sheet.specs.Sound.{rulesIn}
 use Rattle.window.specs.Kept.{filled, refreshed}
+use Rattle.window.proofs.Filled.{filled-take}
 use Rattle.monitor.specs.declared.Monitor.{Monitor}
 use Rattle.monitor.specs.Calls.{bad}
 use Rattle.image.specs.declared.reading.Header.{Header}
 use Rattle.image.specs.declared.reading.Header.the-variants.{Says, Wrong}
-use Rattle.image.specs.Images.{Front, frontOf, answer, unlawfulIn, monitorIn, restoredAs, restoreOf}
+use Rattle.image.specs.Images.{monitorIn, restoredAs, restoreOf}
+use Rattle.image.specs.Parts.{imageLength, Front, frontOf, answer, unlawfulIn}
 use Rattle.image.proofs.Saying.{sets-count}
 
 -- a refusal is no answer
@@ -62,12 +63,12 @@ module _ (s : List ℕ) (h : Header) (is : answer h ≡ frontOf s) where
     pub carried-is : carried ≡ said s .carriedRow
     carried-is = ap (λ (f : Front). f .carried) says
 
--- an image of the form has its sessions in its bytes, 64 at most
+-- an image of the form has its sessions in its bytes, and not too many
 pub record Formed (s : List ℕ) : Type 0 where
-  pub long : 19 ≤ length s
-  pub whole : 19 + 7 * ((length s - 19) / 7) ≤ length s
-  pub kept-is : (length s - 19) / 7 ≡ keptIn s
-  pub few : (length s - 19) / 7 ≤ 64
+  pub long : headerLength ≤ length s
+  pub whole : imageLength ((length s - headerLength) / sessionLength) ≤ length s
+  pub kept-is : (length s - headerLength) / sessionLength ≡ keptIn s
+  pub few : (length s - headerLength) / sessionLength ≤ keptMost
 
 pub formed : (s : List ℕ) → misshapen keptMost s ≡ false → Formed s
 unfolding misshapen keptIn
@@ -77,8 +78,8 @@ formed s e =
     let c = or-false _ _ b in
     let d = or-false _ _ (c .0) .0 in
     let f = or-false _ _ d .0 in
-    let l = ltb-false (length s) 19 (or-false _ _ f .0) in
-    record { long = l; whole = omega arith; kept-is = refl; few = ltb-false 64 ((length s - 19) / 7) (c .1) }
+    let l = ltb-false (length s) headerLength (or-false _ _ f .0) in
+    record { long = l; whole = omega arith; kept-is = refl; few = ltb-false keptMost ((length s - headerLength) / sessionLength) (c .1) }
 
 module _ (m : Monitor) (s : List ℕ) where
   pub restored-bad : bad m ≡ true → record { monitor = m; number = 20 } ≡ restoreOf m s
@@ -90,13 +91,9 @@ module _ (m : Monitor) (s : List ℕ) where
   restored-misshapen b e = rw (b, e)
 
   module _ (b : bad m ≡ false) (e : misshapen keptMost s ≡ false) (kept carried : ℕ) (kept-is : kept ≡ keptIn s) (carried-is : carried ≡ said s .carriedRow) where
-    filled-front : take kept (filled (said s .sets)) ≡ said s .sets
-    unfolding filled
-    filled-front = take-at (said s .sets) (replicate (64 - length (said s .sets)) 0) kept (sets-count s ∙ sym kept-is)
-
     judged : unlawfulIn (m .sheet) carried (take kept (filled (said s .sets))) ≡ unlawful (rulesIn (m .sheet)) (said s)
     unfolding unlawfulIn unlawful
-    judged = rw (filled-front, carried-is)
+    judged = rw (filled-take (said s .sets) kept (sets-count s ∙ sym kept-is), carried-is)
 
     pub restored-unlawful :
         unlawfulIn (m .sheet) carried (take kept (filled (said s .sets))) ≡ true → record { monitor = m; number = 43 } ≡ restoreOf m s
@@ -115,7 +112,7 @@ module _ (m : Monitor) (s : List ℕ) where
                 kept = kept;
                 carried = carried;
                 sets = filled (said s .sets);
-                rows = refreshed (rulesIn (m .sheet)) carried (filled (said s .sets)) (replicate 64 0) 0 (kept - 0);
+                rows = refreshed (rulesIn (m .sheet)) carried (filled (said s .sets)) (replicate keptMost 0) 0 (kept - 0);
               };
           number = 0;
         }

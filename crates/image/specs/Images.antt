@@ -1,16 +1,13 @@
--- What saving and restoring answer, of any stored state and any bytes.
+-- BELIEF. What saving and restoring answer, of any stored state and any bytes.
 -- Assumes nothing.
-use Prim.Native.Nat.{ℕ, _^_}
-use mathlib.Core.Bool.{Bool, cond, _&&_}
+use Prim.Native.Nat.{ℕ}
+use mathlib.Core.Bool.{cond}
 use mathlib.Core.List.{List, _++_}
 use lib.Dec.{eqb, ltb}
 use lib.ListN.{length, take, drop, replicate}
-use Rattle.meaning.specs.Rules.{Rules}
-use Rattle.meaning.specs.Events.{allowed}
-use Rattle.meaning.specs.Records.{headOf}
-use Rattle.meaning.specs.History.{keptMost}
+use Rattle.meaning.specs.Limits.{keptMost}
 use Rattle.meaning.specs.Refusals.{Answer, good, refused, _gives_else_}
-use Rattle.meaning.specs.Image.{Image, bytesOf, imageBytes, said, misshapen, unlawful, readImage}
+use Rattle.meaning.specs.Image.{Image, imageBytes, readImage}
 use Rattle.sheet.specs.declared.Sheet.{Sheet}
 use Rattle.sheet.specs.Sound.{rulesIn}
 use Rattle.window.specs.Kept.{filled, refreshed}
@@ -18,8 +15,6 @@ use Rattle.monitor.specs.declared.Monitor.{Monitor}
 use Rattle.monitor.specs.Calls.{bad}
 use Rattle.image.specs.declared.Saved.{Saved}
 use Rattle.image.specs.declared.Restored.{Restored}
-use Rattle.image.specs.declared.reading.Header.{Header}
-use Rattle.image.specs.declared.reading.Header.the-variants.{Says, Wrong}
 
 -- SAVING
 
@@ -57,7 +52,7 @@ monitorIn s i =
       kept = length (i .sets);
       carried = i .carriedRow;
       sets = filled (i .sets);
-      rows = refreshed (rulesIn s) (i .carriedRow) (filled (i .sets)) (replicate 64 0) 0 (length (i .sets));
+      rows = refreshed (rulesIn s) (i .carriedRow) (filled (i .sets)) (replicate keptMost 0) 0 (length (i .sets));
     }
 
 -- an image that is refused leaves the monitor handed in as it was
@@ -67,30 +62,3 @@ restoredAs m (refused n) = record { monitor = m; number = n }
 
 unfoldable pub restoreOf : Monitor → List ℕ → Restored
 restoreOf m bytes = restoredAs m (cond (bad m) (refused 20) (readImage keptMost (rulesIn (m .sheet)) bytes))
-
--- PARTS OF THE TWO
-
-unfoldable pub headerBytes : ℕ → ℕ → ℕ → List ℕ
-headerBytes total gone carried = headOf 8 ++ bytesOf 4 total ++ bytesOf 4 gone ++ bytesOf 8 carried
-
--- what the front of an image says
-pub record Front : Type 0 where
-  pub total : ℕ
-  pub gone : ℕ
-  pub carried : ℕ
-
--- the front of an image that is of the form, or 42
-unfoldable pub frontOf : List ℕ → Answer Front
-frontOf s = cond (misshapen keptMost s) (refused 42) (good (record { total = said s .total; gone = said s .gone; carried = said s .carriedRow }))
-
--- what a header that was read says, in the paper's terms
-unfoldable pub answer : Header → Answer Front
-answer (Says total gone carried) = good (record { total = total; gone = gone; carried = carried })
-answer Wrong = refused 42
-
--- events of the sheet only, and allowed
-unfoldable pub fine : Rules → ℕ → Bool
-fine r x = ltb x (2 ^ (r .events)) && allowed r x
-
-unfoldable pub unlawfulIn : Sheet → ℕ → List ℕ → Bool
-unlawfulIn s carried sets = unlawful (rulesIn s) (record { total = 0; gone = 0; carriedRow = carried; sets = sets })

@@ -21,29 +21,36 @@ pub struct Restored {
 }
 
 // Puts the image at the front of the buffer, and answers its length.
-pub fn save(m: Monitor, out: &mut [u8]) -> Saved
-    ensures { λ r. ⌜ (r ≡ saveOf m (now (out .entry))) × (now (out .exit) ≡ bufferAfter m (now (out .entry))) ⌝ }
+pub fn save(monitor: Monitor, out: &mut [u8]) -> Saved
+    ensures { λ r. ⌜ (r ≡ saveOf monitor (now (out .entry))) × (now (out .exit) ≡ bufferAfter monitor (now (out .entry))) ⌝ }
 {
-    if m.is_bad() {
+    if monitor.is_bad() {
         return Saved {
-            monitor: m,
+            monitor,
             number: 20,
             length: 0,
         };
     }
-    let kept = m.kept;
-    let length = 19 + 7 * kept;
+    let kept = monitor.kept;
+    let length = limits::HEADER + limits::SESSION * kept;
     if out.len() < length {
         return Saved {
-            monitor: m,
+            monitor,
             number: 41,
             length: 0,
         };
     }
-    let sets = m.sets;
-    writing::put(m.total, m.gone, m.carried, &sets, out, length);
+    let sets = monitor.sets;
+    writing::put(
+        monitor.total,
+        monitor.gone,
+        monitor.carried,
+        &sets,
+        out,
+        length,
+    );
     Saved {
-        monitor: m,
+        monitor,
         number: 0,
         length,
     }
@@ -65,7 +72,7 @@ pub fn restore(mut m: Monitor, bytes: &[u8]) -> Restored
             number: 42,
         };
     };
-    let kept = (bytes.len() - 19) / 7;
+    let kept = (bytes.len() - limits::HEADER) / limits::SESSION;
     let sets = reading::sets_in(bytes, kept);
     let s = m.sheet;
     if reading::is_unlawful(s, carried, sets, kept) {
@@ -74,7 +81,7 @@ pub fn restore(mut m: Monitor, bytes: &[u8]) -> Restored
             number: 43,
         };
     }
-    let mut rows = [0u64; 64];
+    let mut rows = [0u64; limits::KEPT];
     window::rows_from(s, carried, &sets, &mut rows, 0, kept);
     m.total = total;
     m.gone = gone;

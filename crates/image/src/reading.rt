@@ -1,13 +1,14 @@
 // Reading an image: its header, its kept sessions, and whether the sheet allows them.
 ghost use mathlib.Core.Path.{_≡_};
 ghost use mathlib.Core.Bool.{true};
-ghost use Prim.Native.Nat.{_+_, _*_, _≤_, _^_};
+ghost use Prim.Native.Nat.{_+_, _≤_, _^_};
 ghost use lib.Dec.{leb};
 ghost use lib.ListN.{length, take, drop};
+ghost use Rattle.meaning.specs.Limits.{keptMost, headLength, sessionKind, wordBits};
 ghost use Rattle.meaning.specs.Image.{headed as headedBy, keptIn, sessionsIn, said};
 ghost use Rattle.meaning.specs.Lists.{all};
 ghost use Rattle.sheet.specs.Sound.{sound, rulesIn};
-ghost use Rattle.image.specs.Images.{answer, frontOf, unlawfulIn, fine as fineBy};
+ghost use Rattle.image.specs.Parts.{imageLength, answer, frontOf, unlawfulIn, fine as fineBy};
 ghost use Rattle.window.specs.Kept.{filled};
 use crate::numbers;
 use sheet::Sheet;
@@ -20,20 +21,24 @@ pub enum Header {
 
 // Whether the mark and a kind stand at a place.
 fn headed(s: &[u8], at: usize, kind: u8) -> bool
-    requires { ⌜ at + 3 ≤ length (now s) ⌝ }
+    requires { ⌜ at + headLength ≤ length (now s) ⌝ }
     ensures { λ r. ⌜ r ≡ headedBy kind (drop at (now (s .entry))) ⌝ }
 {
-    (s[at] == 0xB4) & (s[at + 1] == 0x4D) & (s[at + 2] == kind)
+    (s[at] == limits::MARK_FIRST) & (s[at + 1] == limits::MARK_SECOND) & (s[at + 2] == kind)
 }
 
 // Whether each of the kept sessions begins with the mark and its kind.
 fn sessions_headed(s: &[u8], kept: usize) -> bool
-    requires { ⌜ (19 + 7 * kept ≤ length (now s)) × (kept ≡ keptIn (now s)) ⌝ }
-    ensures { λ r. ⌜ r ≡ all (headedBy 9) (sessionsIn (now (s .entry))) ⌝ }
+    requires { ⌜ (imageLength kept ≤ length (now s)) × (kept ≡ keptIn (now s)) ⌝ }
+    ensures { λ r. ⌜ r ≡ all (headedBy sessionKind) (sessionsIn (now (s .entry))) ⌝ }
 {
     let mut j: usize = 0;
     while j < kept {
-        if !headed(s, 19 + 7 * j, 9) {
+        if !headed(
+            s,
+            limits::HEADER + limits::SESSION * j,
+            limits::SESSION_KIND,
+        ) {
             return false;
         }
         j += 1;
@@ -46,18 +51,18 @@ pub fn read_header(s: &[u8]) -> Header
     ensures { λ r. ⌜ answer r ≡ frontOf (now (s .entry)) ⌝ }
 {
     let len = s.len();
-    if len < 19 {
+    if len < limits::HEADER {
         return Header::Wrong;
     }
-    let kept = (len - 19) / 7;
-    if ((len - 19) % 7 != 0) | (64 < kept) {
+    let kept = (len - limits::HEADER) / limits::SESSION;
+    if ((len - limits::HEADER) % limits::SESSION != 0) | (limits::KEPT < kept) {
         return Header::Wrong;
     }
-    let marked = headed(s, 0, 8);
+    let marked = headed(s, 0, limits::HEADER_KIND);
     let whole = sessions_headed(s, kept);
-    let total = numbers::number_at(s, 3, 4);
-    let gone = numbers::number_at(s, 7, 4);
-    let carried = numbers::number_at(s, 11, 8);
+    let total = numbers::number_at(s, limits::TOTAL_AT, limits::COUNT_BYTES);
+    let gone = numbers::number_at(s, limits::GONE_AT, limits::COUNT_BYTES);
+    let carried = numbers::number_at(s, limits::CARRIED_AT, limits::ROW_BYTES);
     let counted = total == gone + kept as u64;
     let stray = (gone == 0) & (carried != 0);
     if !marked | !whole | !counted | stray {
@@ -67,14 +72,15 @@ pub fn read_header(s: &[u8]) -> Header
 }
 
 // The sets of the kept sessions, and 0 in the places behind them.
-pub fn sets_in(s: &[u8], kept: usize) -> [u32; 64]
-    requires { ⌜ (19 + 7 * kept ≤ length (now s)) × (kept ≡ keptIn (now s)) × (kept ≤ 64) ⌝ }
+pub fn sets_in(s: &[u8], kept: usize) -> [u32; limits::KEPT]
+    requires { ⌜ (imageLength kept ≤ length (now s)) × (kept ≡ keptIn (now s)) × (kept ≤ keptMost) ⌝ }
     ensures { λ r. ⌜ r ≡ filled (said (now (s .entry)) .sets) ⌝ }
 {
-    let mut out: [u32; 64] = [0; 64];
+    let mut out = [0u32; limits::KEPT];
     let mut j: usize = 0;
     while j < kept {
-        out[j] = numbers::number_at(s, 22 + 7 * j, 4) as u32;
+        let at = limits::HEADER + limits::SESSION * j + limits::SET_AT;
+        out[j] = numbers::number_at(s, at, limits::SET_BYTES) as u32;
         j += 1;
     }
     out
@@ -82,10 +88,10 @@ pub fn sets_in(s: &[u8], kept: usize) -> [u32; 64]
 
 // Whether x has a bit at n or above.
 fn beyond(n: usize, x: u64) -> bool
-    requires { ⌜ n ≤ 64 ⌝ }
+    requires { ⌜ n ≤ wordBits ⌝ }
     ensures { λ r. ⌜ r ≡ leb (2 ^ n) x ⌝ }
 {
-    if n == 64 {
+    if n == limits::WORD_BITS {
         return false;
     }
     (x >> n) != 0
@@ -102,8 +108,8 @@ fn fine(s: Sheet, x: u32) -> bool
 }
 
 // Whether each of the first `kept` sets is fine.
-fn all_fine(s: Sheet, sets: [u32; 64], kept: usize) -> bool
-    requires { ⌜ (sound s ≡ true) × (kept ≤ 64) ⌝ }
+fn all_fine(s: Sheet, sets: [u32; limits::KEPT], kept: usize) -> bool
+    requires { ⌜ (sound s ≡ true) × (kept ≤ keptMost) ⌝ }
     ensures { λ r. ⌜ r ≡ all (fineBy (rulesIn s)) (take kept sets) ⌝ }
 {
     let mut j: usize = 0;
@@ -117,8 +123,8 @@ fn all_fine(s: Sheet, sets: [u32; 64], kept: usize) -> bool
 }
 
 // What 43 names: a set or the row with bits outside the sheet, a set not allowed, or the oldest kept session closed.
-pub fn is_unlawful(s: Sheet, carried: u64, sets: [u32; 64], kept: usize) -> bool
-    requires { ⌜ (sound s ≡ true) × (kept ≤ 64) ⌝ }
+pub fn is_unlawful(s: Sheet, carried: u64, sets: [u32; limits::KEPT], kept: usize) -> bool
+    requires { ⌜ (sound s ≡ true) × (kept ≤ keptMost) ⌝ }
     ensures { λ r. ⌜ r ≡ unlawfulIn s carried (take kept sets) ⌝ }
 {
     let lawful = all_fine(s, sets, kept);

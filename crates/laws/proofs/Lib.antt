@@ -6,4 +6,5 @@ pub mod Chains
 pub mod Growth
 pub mod Accepted
 pub mod Under
+pub mod Paths
 pub mod Nodes

@@ -1,4 +1,4 @@
--- Events and sessions. A session is the set of its events.
+-- BELIEF. Events and sessions. A session is the set of its events.
 -- Assumes nothing.
 use Prim.Native.Nat.{ℕ, zero, suc}
 use mathlib.Core.Bool.{Bool, false, not, _&&_, _||_}

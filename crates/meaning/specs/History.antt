@@ -1,23 +1,16 @@
--- Histories in which nothing is dropped. A history is a row of sessions, oldest first, numbered from 1 in order of beginning.
+-- BELIEF. Histories in which nothing is dropped. A history is a row of sessions, oldest first, numbered from 1 in order of beginning.
 -- Assumes nothing.
 use Prim.Native.Nat.{ℕ, suc, _+_, _-_}
 use mathlib.Core.Bool.{Bool, not, cond, _||_}
 use mathlib.Core.List.{List, [], _∷_, _++_}
 use lib.Dec.{eqb, leb, ltb}
 use lib.ListN.{length, set, drop}
+use Rattle.meaning.specs.Limits.{totalMost}
 use Rattle.meaning.specs.Sets.{mem, added}
 use Rattle.meaning.specs.Rules.{Rules}
 use Rattle.meaning.specs.Events.{possible, supported, closed}
 use Rattle.meaning.specs.Policy.{session, row, lastRow, satisfies}
 use Rattle.meaning.specs.Refusals.{_gives_else_}
-
--- at most so many sessions are kept
-abbrev pub keptMost : ℕ
-keptMost = 64
-
--- at most so many sessions are begun
-abbrev pub totalMost : ℕ
-totalMost = 4294967295
 
 -- what a call tells the host
 pub data Told : Type 0 where

@@ -1,15 +1,16 @@
--- The saved image: the bytes of a history, and what an image says.
+-- BELIEF. The saved image: the bytes of a history, and what an image says.
 -- Assumes nothing.
 use Prim.Native.Nat.{ℕ, zero, suc, _+_, _-_, _*_, _/_, _%_, _^_}
 use mathlib.Core.Bool.{Bool, false, not, cond, _&&_, _||_}
 use mathlib.Core.List.{List, [], _∷_, _++_, map}
 use lib.Dec.{eqb, leb, ltb}
 use lib.ListN.{length, take, drop}
+use Rattle.meaning.specs.Limits.{headerKind, sessionKind, headLength, countLength, rowLength, setLength, totalAt, goneAt, carriedAt, headerLength, sessionLength}
 use Rattle.meaning.specs.Lists.{all}
 use Rattle.meaning.specs.Records.{headOf, marked, kindOf}
 use Rattle.meaning.specs.Rules.{Rules}
 use Rattle.meaning.specs.Events.{allowed, closed}
-use Rattle.meaning.specs.History.{Told, saved, restored, refused, letGo, keptOf, carried}
+use Rattle.meaning.specs.History.{Told, saved, refused, letGo, keptOf, carried}
 use Rattle.meaning.specs.Refusals.{Answer, good}
 
 -- a number in k bytes, lowest first, and back
@@ -32,10 +33,14 @@ pub record Image : Type 0 where
 
 unfoldable pub sessionBytes : List ℕ → List ℕ
 sessionBytes [] = []
-sessionBytes (x ∷ xs) = headOf 9 ++ bytesOf 4 x ++ sessionBytes xs
+sessionBytes (x ∷ xs) = headOf sessionKind ++ bytesOf setLength x ++ sessionBytes xs
+
+-- total, let go, and the row at the last session let go
+unfoldable pub headerBytes : ℕ → ℕ → ℕ → List ℕ
+headerBytes total gone row = headOf headerKind ++ bytesOf countLength total ++ bytesOf countLength gone ++ bytesOf rowLength row
 
 unfoldable pub imageBytes : Image → List ℕ
-imageBytes m = headOf 8 ++ bytesOf 4 (m .total) ++ bytesOf 4 (m .gone) ++ bytesOf 8 (m .carriedRow) ++ sessionBytes (m .sets)
+imageBytes m = headerBytes (m .total) (m .gone) (m .carriedRow) ++ sessionBytes (m .sets)
 
 unfoldable pub imageOf : Rules → List ℕ → Image
 imageOf r h = record { total = length h; gone = letGo r h; carriedRow = carried r h; sets = keptOf r h }
@@ -56,38 +61,38 @@ save r h buffer =
 
 -- READING AN IMAGE
 
--- n parts of seven bytes
-unfoldable pub sevens : ℕ → List ℕ → List (List ℕ)
-sevens zero s = []
-sevens (suc n) s = take 7 s ∷ sevens n (drop 7 s)
+-- n parts, each as long as a session
+unfoldable pub inParts : ℕ → List ℕ → List (List ℕ)
+inParts zero s = []
+inParts (suc n) s = take sessionLength s ∷ inParts n (drop sessionLength s)
 
 unfoldable pub headed : ℕ → List ℕ → Bool
 headed kind s = marked s && eqb (kindOf s) kind
 
--- 19 bytes, and 7 for each kept session
+-- a header, and so many sessions
 unfoldable pub keptIn : List ℕ → ℕ
-keptIn s = (length s - 19) / 7
+keptIn s = (length s - headerLength) / sessionLength
 
 unfoldable pub sessionsIn : List ℕ → List (List ℕ)
-sessionsIn s = sevens (keptIn s) (drop 19 s)
+sessionsIn s = inParts (keptIn s) (drop headerLength s)
 
 unfoldable pub said : List ℕ → Image
 said s =
     record {
-      total = numberOf (take 4 (drop 3 s));
-      gone = numberOf (take 4 (drop 7 s));
-      carriedRow = numberOf (take 8 (drop 11 s));
-      sets = map (λ p. numberOf (drop 3 p)) (sessionsIn s);
+      total = numberOf (take countLength (drop totalAt s));
+      gone = numberOf (take countLength (drop goneAt s));
+      carriedRow = numberOf (take rowLength (drop carriedAt s));
+      sets = map (λ p. numberOf (drop headLength p)) (sessionsIn s);
     }
 
 -- length, mark or kind wrong, over `limit` kept, total not let go + kept, or a row that isn't 0 with none let go
 unfoldable pub misshapen : ℕ → List ℕ → Bool
 misshapen limit s =
     let m = said s in
-    ltb (length s) 19
-    || not (eqb ((length s - 19) % 7) 0)
-    || not (headed 8 s)
-    || not (all (headed 9) (sessionsIn s))
+    ltb (length s) headerLength
+    || not (eqb ((length s - headerLength) % sessionLength) 0)
+    || not (headed headerKind s)
+    || not (all (headed sessionKind) (sessionsIn s))
     || ltb limit (keptIn s)
     || not (eqb (m .total) (m .gone + keptIn s))
     || (eqb (m .gone) 0 && not (eqb (m .carriedRow) 0))
@@ -106,8 +111,3 @@ unlawful r m =
 
 unfoldable pub readImage : ℕ → Rules → List ℕ → Answer Image
 readImage limit r s = cond (misshapen limit s) (Answer.refused 42) (cond (unlawful r (said s)) (Answer.refused 43) (good (said s)))
-
--- what restoring tells
-unfoldable pub restoring : Answer Image → Told
-restoring (good m) = restored
-restoring (Answer.refused n) = refused n

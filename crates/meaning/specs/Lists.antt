@@ -1,4 +1,4 @@
--- Lists of bytes, and of anything.
+-- BELIEF. Lists of bytes, and of anything.
 -- Assumes nothing.
 use Prim.Native.Nat.{ℕ}
 use mathlib.Core.Bool.{Bool, true, false, _&&_, _||_}

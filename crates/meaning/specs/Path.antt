@@ -1,4 +1,4 @@
--- Paths, as bytes. Case counts; nothing is decoded. Roots obey the same form.
+-- BELIEF. Paths, as bytes. Case counts; nothing is decoded. Roots obey the same form.
 -- Assumes nothing.
 use Prim.Native.Nat.{ℕ}
 use mathlib.Core.Bool.{Bool, true, false, not, cond, _&&_}

@@ -1,4 +1,4 @@
--- What a policy says: the logic of document 001, section 3.1.2, over a history of sessions numbered from 1.
+-- BELIEF. What a policy says: the logic of document 001, section 3.1.2, over a history of sessions numbered from 1.
 -- Assumes nothing.
 use Prim.Native.Nat.{ℕ, zero, suc, _-_}
 use mathlib.Core.Bool.{Bool, true, not, _&&_, _||_}

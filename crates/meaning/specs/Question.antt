@@ -1,10 +1,11 @@
--- The path question: which event an access to a path is, under which root, and what follows the root.
+-- BELIEF. The path question: which event an access to a path is, under which root, and what follows the root.
 -- Assumes nothing.
 use Prim.Native.Nat.{ℕ}
 use mathlib.Core.Bool.{not, cond, _&&_, _||_}
 use mathlib.Core.List.{List, [], _∷_}
 use lib.Dec.{eqb, ltb}
 use lib.ListN.{length}
+use Rattle.meaning.specs.Limits.{pathMost}
 use Rattle.meaning.specs.Refusals.{Answer, good, refused, _gives_else_}
 use Rattle.meaning.specs.Path.{wellFormed, covers, restAfter}
 use Rattle.meaning.specs.Sheet.{Root, Sheet, knownAccess, sheetOf}
@@ -35,11 +36,11 @@ unfoldable pub found : List ℕ → Match → Answer Found
 found path (under r) = good (record { event = r .event; root = r .path; rest = restAfter (r .path) path })
 found path nowhere = refused 33
 
--- access not 0 or 1; path of 0 or over 255 bytes; malformed
+-- access not 0 or 1; path of 0 or over 255 bytes (`pathMost`); malformed
 unfoldable pub pathFault : ℕ → List ℕ → ℕ
 pathFault access path =
     not (knownAccess access) gives 34
-    else (eqb (length path) 0 || ltb 255 (length path)) gives 31
+    else (eqb (length path) 0 || ltb pathMost (length path)) gives 31
     else not (wellFormed path) gives 32
     else 0
 

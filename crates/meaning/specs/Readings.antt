@@ -1,9 +1,10 @@
--- Sheets that tell one reading of the paper from another, with the number that each is refused by (0: accepted), as one table and one statement.
+-- BELIEF. Sheets that tell one reading of the paper from another, with the number that each is refused by (0: accepted), as one table and one statement.
 -- Assumes nothing.
 use Prim.Native.Nat.{ℕ}
 use mathlib.Core.Path.{_≡_, refl}
 use mathlib.Core.List.{List, [], _∷_, _++_, map}
 use lib.ListN.{length}
+use Rattle.meaning.specs.Limits.{kindLast, nodeKindsEnd, headerLength, sessionLength}
 use Rattle.meaning.specs.Refusals.{Answer, good, refused}
 use Rattle.meaning.specs.Sheet.{Sheet, sheetOf}
 use Rattle.meaning.specs.Records.{headOf}
@@ -12,6 +13,7 @@ use Rattle.meaning.specs.Rules
 use Rattle.meaning.specs.Records
 use Rattle.meaning.specs.Path
 use Rattle.meaning.specs.Sheet
+use Rattle.meaning.specs.Image
 
 pub number : Answer Sheet → ℕ
 number (good s) = 0
@@ -90,5 +92,15 @@ unfolding
     Rules.nodeInRange
     Records.headOf Records.marked Records.kindOf
     Path.segmentOk Path.prepend Path.segments Path.wellFormed
-    Sheet.kinds Sheet.knownKind Sheet.kindAt Sheet.kindNumber Sheet.nodeKinds Sheet.nodeKind Sheet.nodeFits Sheet.nodeOf Sheet.payload Sheet.behind Sheet.whole Sheet.fits Sheet.framed Sheet.itemOf Sheet.nothingRead Sheet.keyOf Sheet.noted Sheet.afterItem Sheet.tally Sheet.ascends Sheet.disordered Sheet.soFar Sheet.knownAccess Sheet.pairInRange Sheet.inRange Sheet.rootFormed Sheet.itemFault Sheet.itemAt Sheet.fault Sheet.walk Sheet.withNodes Sheet.sheetOf
+    Sheet.kinds Sheet.knownKind Sheet.kindAt Sheet.kindNumber Sheet.nodeKinds Sheet.nodeKind Sheet.nodeFits Sheet.nodeOf Sheet.payload Sheet.behind
+    Sheet.whole Sheet.fits Sheet.framed Sheet.rootIn Sheet.nodeIn Sheet.itemOf Sheet.nothingRead Sheet.keyOf Sheet.also Sheet.noted Sheet.afterRecord
+    Sheet.tally Sheet.ascends Sheet.disordered Sheet.soFar Sheet.knownAccess Sheet.pairInRange Sheet.inRange Sheet.rootFormed Sheet.itemFault
+    Sheet.itemAt Sheet.fault Sheet.walk Sheet.withNodes Sheet.sheetOf
 told-apart = refl
+
+-- The numbers of `Limits` that other definitions imply.
+pub limits-agree :
+    (length Sheet.kinds ≡ kindLast) × (length Sheet.nodeKinds ≡ nodeKindsEnd)
+    × (length (Image.headerBytes 0 0 0) ≡ headerLength) × (length (Image.sessionBytes (0 ∷ [])) ≡ sessionLength)
+unfolding Sheet.kinds Sheet.nodeKinds Records.headOf Image.bytesOf Image.headerBytes Image.sessionBytes
+limits-agree = (refl, refl, refl, refl)

@@ -1,4 +1,4 @@
--- What records of sheets and of images have in common: they begin with the mark and a kind.
+-- BELIEF. What records of sheets and of images have in common: they begin with the mark and a kind.
 -- Assumes nothing.
 use Prim.Native.Nat.{ℕ}
 use mathlib.Core.Bool.{Bool, _&&_}

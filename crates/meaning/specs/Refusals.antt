@@ -1,4 +1,4 @@
--- Refusal numbers: each is given exactly when its line applies and no earlier check did.
+-- BELIEF. Refusal numbers: each is given exactly when its line applies and no earlier check did.
 -- Assumes nothing.
 use Prim.Native.Nat.{ℕ}
 use mathlib.Core.Bool.{Bool, cond}

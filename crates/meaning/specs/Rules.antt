@@ -1,4 +1,4 @@
--- What a sheet says of sessions: its events, what each needs and conflicts with, and its policy. It does not say where these are kept, so that
+-- BELIEF. What a sheet says of sessions: its events, what each needs and conflicts with, and its policy. It does not say where these are kept, so that
 -- the sheet's lists and a loaded sheet both have rules.
 -- Assumes nothing.
 use Prim.Native.Nat.{ℕ}

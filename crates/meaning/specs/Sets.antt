@@ -1,4 +1,4 @@
--- Numbers as sets, and what may be asked of them. Bit e of a number says whether e is in it: so are sets of events written, and rows of truths.
+-- BELIEF. Numbers as sets, and what may be asked of them. Bit e of a number says whether e is in it: so are sets of events written, and rows of truths.
 -- Assumes nothing.
 use Prim.Native.Nat.{ℕ, zero, suc, _+_, _/_, _%_, _^_}
 use mathlib.Core.Bool.{Bool, true, false, not, cond, _&&_, _||_}

@@ -1,10 +1,11 @@
--- The sheet: from bytes to lists, or a refusal, 10 to 16.
+-- BELIEF. The sheet: from bytes to lists, or a refusal, 10 to 16.
 -- Assumes nothing.
-use Prim.Native.Nat.{ℕ, zero, suc, _+_, _-_}
+use Prim.Native.Nat.{ℕ, zero, suc, _+_, _-_, _≤_}
 use mathlib.Core.Bool.{Bool, true, false, not, cond, _&&_, _||_}
 use mathlib.Core.List.{List, [], _∷_, _++_}
 use lib.Dec.{eqb, leb, ltb}
 use lib.ListN.{length, getD, take, drop}
+use Rattle.meaning.specs.Limits.{eventsMost, nodesMost, causesMost, conflictsMost, rootsMost, sheetMost, kindLast, ofCount, ofCause, ofConflict, ofRoot, ofNode, nodeKindsEnd, rootLeast, rootMost}
 use Rattle.meaning.specs.Lists.{isEmpty}
 use Rattle.meaning.specs.Rules.{Node, Rules, nodeInRange}
 use Rattle.meaning.specs.Events.{neededBy, conflictingWith}
@@ -39,29 +40,33 @@ pub record Kind : Type 0 where
   pub greatest : ℕ
   pub most : ℕ
 
--- kinds 1 to 5: the number of events, causes, conflicts, roots, nodes (whose length `nodeFits` fixes further)
+-- kind 1 first: the number of events, causes, conflicts, roots (access and event before the path), nodes (whose length `nodeFits` fixes further)
 unfoldable pub kinds : List Kind
 kinds =
     record { least = 1; greatest = 1; most = 1 }
-    ∷ record { least = 2; greatest = 2; most = 64 }
-    ∷ record { least = 2; greatest = 2; most = 64 }
-    ∷ record { least = 4; greatest = 122; most = 16 }
-    ∷ record { least = 1; greatest = 3; most = 64 }
+    ∷ record { least = 2; greatest = 2; most = causesMost }
+    ∷ record { least = 2; greatest = 2; most = conflictsMost }
+    ∷ record { least = 2 + rootLeast; greatest = 2 + rootMost; most = rootsMost }
+    ∷ record { least = 1; greatest = 3; most = nodesMost }
     ∷ []
 
+-- a known kind, as a test and as a fact
 unfoldable pub knownKind : ℕ → Bool
-knownKind k = leb 1 k && leb k (length kinds)
+knownKind k = leb 1 k && leb k kindLast
+
+abbrev pub Known : ℕ → Type 0
+Known k = (1 ≤ k) × (k ≤ kindLast)
 
 unfoldable pub kindAt : ℕ → Kind
 kindAt k = getD kinds (k - 1) (record { least = 0; greatest = 0; most = 0 })
 
 -- the kind of the record that says this
 unfoldable pub kindNumber : Item → ℕ
-kindNumber (count n) = 1
-kindNumber (cause a b) = 2
-kindNumber (conflict a b) = 3
-kindNumber (root r) = 4
-kindNumber (node n) = 5
+kindNumber (count n) = ofCount
+kindNumber (cause a b) = ofCause
+kindNumber (conflict a b) = ofConflict
+kindNumber (root r) = ofRoot
+kindNumber (node n) = ofNode
 
 -- THE NODE KINDS
 
@@ -70,7 +75,7 @@ pub record NodeKind : Type 0 where
   pub takes : ℕ
   pub makes : ℕ → ℕ → Node
 
--- kinds 0 to 7
+-- kind 0 first
 unfoldable pub nodeKinds : List NodeKind
 nodeKinds =
     record { takes = 0; makes = λ a b. Node.always }
@@ -88,7 +93,7 @@ nodeKind k = getD nodeKinds k (record { takes = 0; makes = λ a b. Node.always }
 
 -- a node's payload is its kind, a known one, and that kind's operands
 unfoldable pub nodeFits : List ℕ → Bool
-nodeFits p = let k = getD p 0 0 in ltb k (length nodeKinds) && eqb (length p) (1 + nodeKind k .takes)
+nodeFits p = let k = getD p 0 0 in ltb k nodeKindsEnd && eqb (length p) (1 + nodeKind k .takes)
 
 unfoldable pub nodeOf : ℕ → ℕ → ℕ → Node
 nodeOf k a b = nodeKind k .makes a b
@@ -107,25 +112,24 @@ whole s = leb 4 (length s) && leb (4 + getD s 3 0) (length s)
 
 -- the payload's length is one that the kind may have
 unfoldable pub fits : ℕ → List ℕ → Bool
-fits k p = leb (kindAt k .least) (length p) && leb (length p) (kindAt k .greatest) && (not (eqb k 5) || nodeFits p)
+fits k p = leb (kindAt k .least) (length p) && leb (length p) (kindAt k .greatest) && (not (eqb k ofNode) || nodeFits p)
 
 unfoldable pub framed : List ℕ → Bool
 framed s = whole s && marked s && knownKind (kindOf s) && fits (kindOf s) (payload s)
 
--- what a payload of kind 1 to 5 says
+-- the root and the node that a payload says
+unfoldable pub rootIn : List ℕ → Root
+rootIn p = record { access = getD p 0 0; event = getD p 1 0; path = drop 2 p }
+
+unfoldable pub nodeIn : List ℕ → Node
+nodeIn p = nodeOf (getD p 0 0) (getD p 1 0) (getD p 2 0)
+
+-- what a payload of a known kind says
 unfoldable pub itemOf : ℕ → List ℕ → Item
 itemOf k p =
     let a = getD p 0 0 in
     let b = getD p 1 0 in
-    getD
-    (count a
-    ∷ cause a b
-    ∷ conflict a b
-    ∷ root (record { access = a; event = b; path = drop 2 p })
-    ∷ node (nodeOf a b (getD p 2 0))
-    ∷ [])
-    (k - 1)
-    (count 0)
+    getD (count a ∷ cause a b ∷ conflict a b ∷ root (rootIn p) ∷ node (nodeIn p) ∷ []) (k - 1) (count 0)
 
 -- READING: the lists so far, and the kind and key of the record before (kind 0: nothing was read)
 
@@ -145,16 +149,24 @@ keyOf (conflict a b) = a ∷ b ∷ []
 keyOf (root r) = r .access ∷ r .path
 keyOf (node n) = []
 
--- the lists with one record more
-unfoldable pub noted : Sheet → Item → Sheet
-noted s (count n) = record { events = n; causes = s .causes; conflicts = s .conflicts; roots = s .roots; nodes = s .nodes }
-noted s (cause a b) = record { events = s .events; causes = s .causes ++ ((a, b) ∷ []); conflicts = s .conflicts; roots = s .roots; nodes = s .nodes }
-noted s (conflict a b) = record { events = s .events; causes = s .causes; conflicts = s .conflicts ++ ((a, b) ∷ []); roots = s .roots; nodes = s .nodes }
-noted s (root r) = record { events = s .events; causes = s .causes; conflicts = s .conflicts; roots = s .roots ++ (r ∷ []); nodes = s .nodes }
-noted s (node n) = record { events = s .events; causes = s .causes; conflicts = s .conflicts; roots = s .roots; nodes = s .nodes ++ (n ∷ []) }
+-- a list with one entry more, where the record is of its kind
+unfoldable pub also : {A : Type 0} → Bool → List A → A → List A
+also b l x = cond b (l ++ (x ∷ [])) l
 
-unfoldable pub afterItem : Reading → Item → Reading
-afterItem g i = record { lists = noted (g .lists) i; kind = kindNumber i; key = keyOf i }
+-- the lists with one record more, of kind k
+unfoldable pub noted : Sheet → ℕ → List ℕ → Sheet
+noted s k p =
+    let pair : ℕ × ℕ = (getD p 0 0, getD p 1 0) in
+    record {
+      events = cond (eqb k ofCount) (getD p 0 0) (s .events);
+      causes = also (eqb k ofCause) (s .causes) pair;
+      conflicts = also (eqb k ofConflict) (s .conflicts) pair;
+      roots = also (eqb k ofRoot) (s .roots) (rootIn p);
+      nodes = also (eqb k ofNode) (s .nodes) (nodeIn p);
+    }
+
+unfoldable pub afterRecord : Reading → ℕ → List ℕ → Reading
+afterRecord g k p = record { lists = noted (g .lists) k p; kind = k; key = keyOf (itemOf k p) }
 
 -- FAULTS: a record is judged by a tally of those before it
 
@@ -164,23 +176,22 @@ pub record Tally : Type 0 where
   pub key : List ℕ
   -- the number of events that the sheet names
   pub events : ℕ
-  -- how many of each other kind were read
-  pub causes : ℕ
-  pub conflicts : ℕ
-  pub roots : ℕ
-  pub nodes : ℕ
+  -- how many of each kind were read, kind 1 first
+  pub seen : List ℕ
 
 unfoldable pub tally : Reading → Tally
 tally g =
+    let l = g .lists in
     record {
       kind = g .kind;
       key = g .key;
-      events = g .lists .events;
-      causes = length (g .lists .causes);
-      conflicts = length (g .lists .conflicts);
-      roots = length (g .lists .roots);
-      nodes = length (g .lists .nodes);
+      events = l .events;
+      seen = cond (eqb (g .kind) 0) 0 1 ∷ length (l .causes) ∷ length (l .conflicts) ∷ length (l .roots) ∷ length (l .nodes) ∷ [];
     }
+
+-- how many of a kind were read
+unfoldable pub soFar : Tally → ℕ → ℕ
+soFar t k = getD (t .seen) (k - 1) 0
 
 -- strictly ascending, byte by byte, a proper prefix coming first
 unfoldable pub ascends : List ℕ → List ℕ → Bool
@@ -191,18 +202,10 @@ ascends (x ∷ xs) (y ∷ ys) = ltb x y || (eqb x y && ascends xs ys)
 -- first record not kind 1, kind 1 again, or order broken
 unfoldable pub disordered : ℕ → List ℕ → Item → Bool
 disordered kind key i =
-    (eqb kind 0 && not (eqb (kindNumber i) 1))
-    || (not (eqb kind 0) && eqb (kindNumber i) 1)
+    (eqb kind 0 && not (eqb (kindNumber i) ofCount))
+    || (not (eqb kind 0) && eqb (kindNumber i) ofCount)
     || ltb (kindNumber i) kind
     || (eqb (kindNumber i) kind && not (isEmpty (keyOf i)) && not (ascends key (keyOf i)))
-
--- how many of its kind were read before
-unfoldable pub soFar : Tally → Item → ℕ
-soFar t (count n) = cond (eqb (t .kind) 0) 0 1
-soFar t (cause a b) = t .causes
-soFar t (conflict a b) = t .conflicts
-soFar t (root r) = t .roots
-soFar t (node n) = t .nodes
 
 unfoldable pub knownAccess : ℕ → Bool
 knownAccess a = leb a 1
@@ -211,9 +214,9 @@ knownAccess a = leb a 1
 unfoldable pub pairInRange : ℕ → ℕ → ℕ → Bool
 pairInRange events a b = ltb a b && ltb b events
 
--- 1 to 32 events; a < b; event and access in range; operands earlier nodes
+-- 1 to 32 events (`eventsMost`); a < b; event and access in range; operands earlier nodes
 unfoldable pub inRange : ℕ → ℕ → Item → Bool
-inRange events earlier (count n) = leb 1 n && leb n 32
+inRange events earlier (count n) = leb 1 n && leb n eventsMost
 inRange events earlier (cause a b) = pairInRange events a b
 inRange events earlier (conflict a b) = pairInRange events a b
 inRange events earlier (root r) = knownAccess (r .access) && ltb (r .event) events
@@ -230,8 +233,8 @@ rootFormed (node n) = true
 unfoldable pub itemFault : Tally → Item → ℕ
 itemFault t i =
     disordered (t .kind) (t .key) i gives 12
-    else leb (kindAt (kindNumber i) .most) (soFar t i) gives 15
-    else not (inRange (t .events) (t .nodes) i) gives 13
+    else leb (kindAt (kindNumber i) .most) (soFar t (kindNumber i)) gives 15
+    else not (inRange (t .events) (soFar t ofNode) i) gives 13
     else not (rootFormed i) gives 14
     else 0
 
@@ -253,16 +256,13 @@ walk (suc n) g [] = good (g .lists)
 walk zero g (b ∷ s) = refused 11
 walk (suc n) g (b ∷ s) =
     let f = fault g (b ∷ s) in
-    let further = walk n (afterItem g (itemAt (b ∷ s))) (behind (b ∷ s)) in
+    let further = walk n (afterRecord g (kindOf (b ∷ s)) (payload (b ∷ s))) (behind (b ∷ s)) in
     cond (eqb f 0) further (refused f)
 
 -- empty sheet, or no node
 unfoldable pub withNodes : Answer Sheet → Answer Sheet
 withNodes (good s) = cond (isEmpty (s .nodes)) (refused 16) (good s)
 withNodes (refused n) = refused n
-
-abbrev pub sheetMost : ℕ
-sheetMost = 4096
 
 unfoldable pub sheetOf : List ℕ → Answer Sheet
 sheetOf s = cond (ltb sheetMost (length s)) (refused 10) (withNodes (walk (length s) nothingRead s))

@@ -1,4 +1,4 @@
--- The recursive form: a row of truths from the row before it and the session's set. For rules whose nodes are in order it is the written one: `row-step` in the crate `laws`.
+-- BELIEF. The recursive form: a row of truths from the row before it and the session's set. For rules whose nodes are in order it is the written one: `row-step` in the crate `laws`.
 -- Assumes nothing.
 use Prim.Native.Nat.{ℕ, zero, suc, _+_, _^_}
 use mathlib.Core.Bool.{Bool, true, not, cond, _&&_, _||_}

@@ -1,4 +1,4 @@
--- A year of doors, worked: W1 to W11 as one table and one statement about the written meaning.
+-- BELIEF. A year of doors, worked: W1 to W11 as one table and one statement about the written meaning.
 -- To try one row alone, state `heard w3 ≡ w3 .expected` with the same `unfolding` line.
 -- Assumes nothing.
 use Prim.Native.Nat.{ℕ}
@@ -9,7 +9,8 @@ use Rattle.meaning.specs.Rules.{Rules}
 use Rattle.meaning.specs.Refusals.{Answer, good}
 use Rattle.meaning.specs.Sheet.{Sheet, sheetOf, rulesOf}
 use Rattle.meaning.specs.Question.{Found, question}
-use Rattle.meaning.specs.History.{Told, keptMost}
+use Rattle.meaning.specs.Limits.{keptMost}
+use Rattle.meaning.specs.History.{Told}
 use Rattle.meaning.specs.History
 use Rattle.meaning.specs.Lists
 use Rattle.meaning.specs.Sets
@@ -238,8 +239,11 @@ unfolding
     Policy.session Policy.holds Policy.formulaOf Policy.formulas Policy.nodeHolds Policy.row Policy.orOneEmpty Policy.lastRow Policy.satisfies
     Records.headOf Records.marked Records.kindOf
     Path.segmentOk Path.prepend Path.segments Path.wellFormed Path.edge Path.restAfter Path.covers
-    Sheet.kinds Sheet.knownKind Sheet.kindAt Sheet.kindNumber Sheet.nodeKinds Sheet.nodeKind Sheet.nodeFits Sheet.nodeOf Sheet.payload Sheet.behind Sheet.whole Sheet.fits Sheet.framed Sheet.itemOf Sheet.nothingRead Sheet.keyOf Sheet.noted Sheet.afterItem Sheet.tally Sheet.ascends Sheet.disordered Sheet.soFar Sheet.knownAccess Sheet.pairInRange Sheet.inRange Sheet.rootFormed Sheet.itemFault Sheet.itemAt Sheet.fault Sheet.walk Sheet.withNodes Sheet.sheetOf Sheet.rulesOf
+    Sheet.kinds Sheet.knownKind Sheet.kindAt Sheet.kindNumber Sheet.nodeKinds Sheet.nodeKind Sheet.nodeFits Sheet.nodeOf Sheet.payload Sheet.behind
+    Sheet.whole Sheet.fits Sheet.framed Sheet.rootIn Sheet.nodeIn Sheet.itemOf Sheet.nothingRead Sheet.keyOf Sheet.also Sheet.noted Sheet.afterRecord
+    Sheet.tally Sheet.ascends Sheet.disordered Sheet.soFar Sheet.knownAccess Sheet.pairInRange Sheet.inRange Sheet.rootFormed Sheet.itemFault
+    Sheet.itemAt Sheet.fault Sheet.walk Sheet.withNodes Sheet.sheetOf Sheet.rulesOf
     Question.longer Question.better Question.longest Question.found Question.pathFault Question.pathIn Question.askedOf Question.question
     History.orRefused History.letGo History.keptOf History.carried History.beginFault History.begin History.withSession History.recordFault History.recordIn History.check History.counts
-    Image.bytesOf Image.sessionBytes Image.imageBytes Image.imageOf Image.save
+    Image.bytesOf Image.sessionBytes Image.headerBytes Image.imageBytes Image.imageOf Image.save
 worked = refl

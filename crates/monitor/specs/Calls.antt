@@ -1,14 +1,14 @@
--- What each call answers, of any stored state at all: a total function of the state and the arguments.
+-- BELIEF. What each call answers, of any stored state at all: a total function of the state and the arguments.
 -- Assumes nothing.
-use Prim.Native.Nat.{ℕ, _+_, _-_, _≤_}
-use mathlib.Core.Path.{_≡_}
-use mathlib.Core.Bool.{Bool, true, false, not, cond, _||_}
+use Prim.Native.Nat.{ℕ, _+_, _-_}
+use mathlib.Core.Bool.{Bool, false, not, cond, _||_}
 use lib.Dec.{eqb, leb, ltb}
 use lib.ListN.{getD, set, take, replicate}
+use Rattle.meaning.specs.Limits.{keptMost, totalMost}
 use Rattle.meaning.specs.Sets.{mem, added}
 use Rattle.meaning.specs.Events.{possible, supported, closed}
 use Rattle.meaning.specs.Steps.{nextRow}
-use Rattle.meaning.specs.History.{keptMost, totalMost, letGo}
+use Rattle.meaning.specs.History.{letGo}
 use Rattle.meaning.specs.Refusals.{_gives_else_}
 use Rattle.sheet.specs.declared.Sheet.{Sheet}
 use Rattle.sheet.specs.Sound.{sound, rulesIn}
@@ -21,17 +21,11 @@ use Rattle.monitor.specs.declared.Counted.{Counted}
 
 -- the empty monitor of a loaded sheet
 unfoldable pub fresh : Sheet → Monitor
-fresh s = record { sheet = s; total = 0; gone = 0; kept = 0; carried = 0; sets = replicate 64 0; rows = replicate 64 0 }
+fresh s = record { sheet = s; total = 0; gone = 0; kept = 0; carried = 0; sets = replicate keptMost 0; rows = replicate keptMost 0 }
 
 -- 20: too many kept, let go + kept differs from total, or a sheet that is not sound
 unfoldable pub bad : Monitor → Bool
 bad m = ltb keptMost (m .kept) || not (eqb (m .gone + m .kept) (m .total)) || not (sound (m .sheet))
-
--- what a state that passes 20 is, and stays while it is worked on
-pub record Fit (m : Monitor) : Type 0 where
-  pub sounds : sound (m .sheet) ≡ true
-  pub few : m .kept ≤ 64
-  pub counted : m .gone + m .kept ≡ m .total
 
 -- the oldest kept session is let go while it is closed
 unfoldable pub settled : Monitor → Monitor
@@ -60,13 +54,16 @@ opened m =
       rows = set (m .rows) (m .kept) (nextRow (rulesIn (m .sheet)) (rowBefore (m .carried) (m .rows) (m .kept)) 0);
     }
 
-unfoldable pub beginOf : Monitor → Begun
-beginOf m =
-    let fault =
+unfoldable pub beginFaultOf : Monitor → ℕ
+beginFaultOf m =
     bad m gives 20
     else leb totalMost (m .total) gives 28
     else leb keptMost (m .kept) gives 27
-    else 0 in
+    else 0
+
+unfoldable pub beginOf : Monitor → Begun
+beginOf m =
+    let fault = beginFaultOf m in
     cond (eqb fault 0)
     (record { monitor = settled (opened m); number = 0; session = m .total + 1 })
     (record { monitor = m; number = fault; session = 0 })

@@ -4,7 +4,9 @@ ghost use Prim.Native.Nat.{_+_, _≤_};
 ghost use lib.ListN.{length, drop};
 ghost use Rattle.meaning.specs.Path.{edge};
 ghost use Rattle.meaning.specs.Question.{question};
-ghost use Rattle.path.specs.Search.{RootFrame, Accepted, Best, Answers, worthIt, PartAt, PartOf, eventOf, rootOf, restOf};
+ghost use Rattle.path.specs.Places.{rootPlace};
+ghost use Rattle.path.specs.Search.{RootFrame, Accepted, Best, Answers, worthIt};
+ghost use Rattle.path.specs.Questions.{PartAt, eventOf, rootOf, restOf};
 use records::Frame;
 use records::Record;
 use sheet::load;
@@ -28,24 +30,18 @@ pub struct Event {
     pub event: u8,
 }
 
-fn wide(x: u8) -> u32
-    ensures { λ r. ⌜ r ≡ x ⌝ }
-{
-    x as u32
-}
-
 // Whether the record at f is a root of the access, longer than the best so far and no longer than the path.
 fn worth(sheet: &[u8], f: Frame, access: u32, path: &[u8], most: usize) -> bool
     requires { ⌜ RootFrame (now sheet) f ⌝ }
     ensures { λ r. ⌜ r ≡ worthIt (now (sheet .entry)) f access (length (now (path .entry))) most ⌝ }
 {
     let kind = f.kind;
-    if kind != 4 {
+    if kind != limits::ROOT {
         return false;
     }
     let start = f.start;
     let m = f.len - 2;
-    if wide(sheet[start]) != access {
+    if bits::small(sheet[start]) != bits::count(access) {
         return false;
     }
     (most < m) & (m <= path.len())
@@ -117,7 +113,7 @@ fn judge(sheet: &[u8], access: u32, path: &[u8]) -> Found
     if path.len() == 0 {
         return Found::Refused(31);
     }
-    if 255 < path.len() {
+    if limits::PATH < path.len() {
         return Found::Refused(31);
     }
     if !form::well_formed(path) {
@@ -146,9 +142,9 @@ pub fn event_of(sheet: &[u8], access: u32, path: &[u8]) -> Event
     }
 }
 
-// The root that the path lies under, as it stands in the sheet; empty on refusal.
+// The root that the path lies under, as and where it stands in the sheet: the same bytes may stand elsewhere in it. On refusal the empty part at its front.
 pub fn root_of<'s, 'p>(sheet: &'s [u8], access: u32, path: &'p [u8]) -> &'s [u8]
-    ensures { λ r. ⌜ (now r ≡ rootOf (question (now (sheet .entry)) access (now (path .entry)))) × PartOf r (sheet .entry) ⌝ }
+    ensures { λ r. ⌜ (now r ≡ rootOf (question (now (sheet .entry)) access (now (path .entry)))) × PartAt (rootPlace (now (sheet .entry)) access (now (path .entry))) r (sheet .entry) ⌝ }
 {
     let Found::Under(b) = judge(sheet, access, path) else {
         return &sheet[0..0];

@@ -1,46 +1,16 @@
--- No call of a host asks anything of its caller: what it is asked before (`Asked`, as the prover reads the source) is nothing.
+-- No call of a host asks anything of its caller: each statement holds as the source is read.
 -- Assumes nothing.
-use Prim.Native.Nat.{ℕ}
-use mathlib.Core.Path.{_≡_, refl}
-use mathlib.Core.List.{List}
-use contract.Lifetimes.{Lfts}
-use denote.Ref.{RefT}
-use Rattle.sheet.specs.declared.Sheet.{Sheet}
-use Rattle.sheet.proofs.load.Reads as load-reads
-use Rattle.sheet.proofs.Sheet.empty.Reads as empty-reads
-use Rattle.sheet.proofs.Sheet.is_sound.Reads as is-sound-reads
-use Rattle.path.proofs.event_of.Reads as event-of-reads
-use Rattle.path.proofs.root_of.Reads as root-of-reads
-use Rattle.path.proofs.rest_of.Reads as rest-of-reads
-use Rattle.monitor.specs.declared.Monitor.{Monitor}
-use Rattle.monitor.proofs.Monitor.new.Reads as new-reads
-use Rattle.monitor.proofs.Monitor.is_bad.Reads as is-bad-reads
-use Rattle.monitor.proofs.Monitor.begin.Reads as begin-reads
-use Rattle.monitor.proofs.Monitor.record.Reads as record-reads
-use Rattle.monitor.proofs.Monitor.check.Reads as check-reads
-use Rattle.monitor.proofs.Monitor.counts.Reads as counts-reads
-use Rattle.image.proofs.save.Reads as save-reads
-use Rattle.image.proofs.restore.Reads as restore-reads
+use mathlib.Core.Path.{refl}
+use Rattle.promises.specs.Asked.{SheetsAskNothing, PathsAskNothing, MonitorsAskNothing}
 
-pub sheets-ask-nothing : (κs : Lfts 1) (bytes : RefT (List ℕ)) (s : Sheet) →
-    (load-reads.Asked κs (bytes, tt) ≡ Unit {0})
-    × (empty-reads.Asked tt tt ≡ Unit {0})
-    × (is-sound-reads.Asked tt (s, tt) ≡ Unit {0})
+pub sheets-ask-nothing : SheetsAskNothing
+unfolding SheetsAskNothing
 sheets-ask-nothing κs bytes s = (refl, refl, refl)
 
-pub paths-ask-nothing : (κs : Lfts 2) (sheet : RefT (List ℕ)) (access : ℕ) (path : RefT (List ℕ)) →
-    (event-of-reads.Asked κs (sheet, (access, (path, tt))) ≡ Unit {0})
-    × (root-of-reads.Asked κs (sheet, (access, (path, tt))) ≡ Unit {0})
-    × (rest-of-reads.Asked κs (sheet, (access, (path, tt))) ≡ Unit {0})
+pub paths-ask-nothing : PathsAskNothing
+unfolding PathsAskNothing
 paths-ask-nothing κs sheet access path = (refl, refl, refl)
 
-pub monitors-ask-nothing : (s : Sheet) (m : Monitor) (n e : ℕ) (κs : Lfts 1) (bytes : RefT (List ℕ)) →
-    (new-reads.Asked tt (s, tt) ≡ Unit {0})
-    × (is-bad-reads.Asked tt (m, tt) ≡ Unit {0})
-    × (begin-reads.Asked tt (m, tt) ≡ Unit {0})
-    × (record-reads.Asked tt (m, (n, (e, tt))) ≡ Unit {0})
-    × (check-reads.Asked tt (m, tt) ≡ Unit {0})
-    × (counts-reads.Asked tt (m, tt) ≡ Unit {0})
-    × (save-reads.Asked κs (m, (bytes, tt)) ≡ Unit {0})
-    × (restore-reads.Asked κs (m, (bytes, tt)) ≡ Unit {0})
+pub monitors-ask-nothing : MonitorsAskNothing
+unfolding MonitorsAskNothing
 monitors-ask-nothing s m n e κs bytes = (refl, refl, refl, refl, refl, refl, refl, refl)

@@ -10,7 +10,8 @@ use lib.Dec.{eqb, leb}
 use lib.ListN.{length, getD, take, drop, length-drop, List·getD-map}
 use lib.Seq.{getD-drop, drop-drop}
 use borrow.Author.Tests.{lt-ltb, le-ltb, le-leb, lt-leb, eq-eqb, ne-eqb, eqb-true, eqb-false}
-use Rattle.meaning.specs.Records.{marked, kindOf}
+use Rattle.meaning.specs.Limits.{rootLeast, rootMost, kindLast, ofNode, nodeKindsEnd}
+use Rattle.meaning.specs.Records.{markFirst, markSecond, marked, kindOf}
 use Rattle.records.specs.declared.Record.{Record}
 use Rattle.records.specs.declared.Record.the-variants.{Whole, Broken}
 use Rattle.records.specs.declared.Frame.{Frame}
@@ -21,7 +22,10 @@ use Rattle.meaning.specs.Sheet.{Kind, NodeKind, kinds, kindAt, knownKind, nodeK
 -- NODES
 
 -- the code's list of operand counts
-takes-at : (k : ℕ) → getD (0 ∷ 1 ∷ 1 ∷ 1 ∷ 2 ∷ 2 ∷ 1 ∷ 2 ∷ []) k 0 ≡ nodeKind k .takes
+abbrev operands : List ℕ
+operands = 0 ∷ 1 ∷ 1 ∷ 1 ∷ 2 ∷ 2 ∷ 1 ∷ 2 ∷ []
+
+takes-at : (k : ℕ) → getD operands k 0 ≡ nodeKind k .takes
 unfolding nodeKinds nodeKind
 takes-at k = List·getD-map (λ (x : NodeKind). x .takes) nodeKinds k (record { takes = 0; makes = λ a b. Rattle.meaning.specs.Rules.Node.always })
 
@@ -41,26 +45,33 @@ module _ (p : List ℕ) where
       go [] e = refl
       go (b ∷ l) e = absurd (omega arith)
 
-  pub node-unknown : 8 ≤ getD p 0 0 → nodeFits p ≡ false
+  pub node-unknown : nodeKindsEnd ≤ getD p 0 0 → nodeFits p ≡ false
   unfolding nodeFits nodeKinds
-  node-unknown h = rw (le-ltb (getD p 0 0) 8 h)
+  node-unknown h = rw (le-ltb (getD p 0 0) nodeKindsEnd h)
 
   pub node-known :
-      (length p ≡ 0 → ⊥) → getD p 0 0 < 8
-      → eqb (length p - 1) (getD (0 ∷ 1 ∷ 1 ∷ 1 ∷ 2 ∷ 2 ∷ 1 ∷ 2 ∷ []) (getD p 0 0) 0) ≡ nodeFits p
+      (length p ≡ 0 → ⊥) → getD p 0 0 < nodeKindsEnd
+      → eqb (length p - 1) (getD operands (getD p 0 0) 0) ≡ nodeFits p
   unfolding nodeFits nodeKinds
-  node-known n h = rw (lt-ltb (getD p 0 0) 8 h) (less-one (length p) _ n ∙ ap (λ (t : ℕ). eqb (length p) (1 + t)) (takes-at (getD p 0 0)))
+  node-known n h = rw (lt-ltb (getD p 0 0) nodeKindsEnd h) (less-one (length p) _ n ∙ ap (λ (t : ℕ). eqb (length p) (1 + t)) (takes-at (getD p 0 0)))
 
 -- KINDS
 
 no-kind : Kind
 no-kind = record { least = 0; greatest = 0; most = 0 }
 
-least-at : (k : ℕ) → getD (1 ∷ 2 ∷ 2 ∷ 4 ∷ 1 ∷ []) (k - 1) 0 ≡ kindAt k .least
+-- the code's lists of lengths
+abbrev leasts : List ℕ
+leasts = 1 ∷ 2 ∷ 2 ∷ (2 + rootLeast) ∷ 1 ∷ []
+
+abbrev greatests : List ℕ
+greatests = 1 ∷ 2 ∷ 2 ∷ (2 + rootMost) ∷ 3 ∷ []
+
+least-at : (k : ℕ) → getD leasts (k - 1) 0 ≡ kindAt k .least
 unfolding kinds kindAt no-kind
 least-at k = List·getD-map (λ (x : Kind). x .least) kinds (k - 1) no-kind
 
-greatest-at : (k : ℕ) → getD (1 ∷ 2 ∷ 2 ∷ 122 ∷ 3 ∷ []) (k - 1) 0 ≡ kindAt k .greatest
+greatest-at : (k : ℕ) → getD greatests (k - 1) 0 ≡ kindAt k .greatest
 unfolding kinds kindAt no-kind
 greatest-at k = List·getD-map (λ (x : Kind). x .greatest) kinds (k - 1) no-kind
 
@@ -73,36 +84,36 @@ module _ (k : ℕ) (p : List ℕ) where
   unfolding knownKind
   kind-low h = rw (lt-leb 1 k h)
 
-  pub kind-high : 5 < k → (knownKind k && fits k p) ≡ false
-  unfolding knownKind kinds
-  kind-high h = ap (λ (b : Bool). leb 1 k && b && fits k p) (lt-leb k 5 h) ∙ ap (λ (b : Bool). b && fits k p) (and-false (leb 1 k))
+  pub kind-high : kindLast < k → (knownKind k && fits k p) ≡ false
+  unfolding knownKind
+  kind-high h = ap (λ (b : Bool). leb 1 k && b && fits k p) (lt-leb k kindLast h) ∙ ap (λ (b : Bool). b && fits k p) (and-false (leb 1 k))
 
-  module _ (l : 1 ≤ k) (h : k ≤ 5) where
+  module _ (l : 1 ≤ k) (h : k ≤ kindLast) where
     known : knownKind k ≡ true
-    unfolding knownKind kinds
-    known = rw (le-leb 1 k l, le-leb k 5 h)
+    unfolding knownKind
+    known = rw (le-leb 1 k l, le-leb k kindLast h)
 
-    pub kind-short : length p < getD (1 ∷ 2 ∷ 2 ∷ 4 ∷ 1 ∷ []) (k - 1) 0 → (knownKind k && fits k p) ≡ false
+    pub kind-short : length p < getD leasts (k - 1) 0 → (knownKind k && fits k p) ≡ false
     unfolding fits
     kind-short s = rw (known, lt-leb (kindAt k .least) (length p) (rw least-at at s))
 
-    pub kind-long : getD (1 ∷ 2 ∷ 2 ∷ 122 ∷ 3 ∷ []) (k - 1) 0 < length p → (knownKind k && fits k p) ≡ false
+    pub kind-long : getD greatests (k - 1) 0 < length p → (knownKind k && fits k p) ≡ false
     unfolding fits
     kind-long s =
         rw (known, lt-leb (length p) (kindAt k .greatest) (rw greatest-at at s))
-        (ap (λ (b : Bool). b && (not (eqb k 5) || nodeFits p)) (and-false (leb (kindAt k .least) (length p))))
+        (ap (λ (b : Bool). b && (not (eqb k ofNode) || nodeFits p)) (and-false (leb (kindAt k .least) (length p))))
 
-    module _ (a : getD (1 ∷ 2 ∷ 2 ∷ 4 ∷ 1 ∷ []) (k - 1) 0 ≤ length p) (b : length p ≤ getD (1 ∷ 2 ∷ 2 ∷ 122 ∷ 3 ∷ []) (k - 1) 0) where
-      kind-sized : (knownKind k && fits k p) ≡ (not (eqb k 5) || nodeFits p)
+    module _ (a : getD leasts (k - 1) 0 ≤ length p) (b : length p ≤ getD greatests (k - 1) 0) where
+      kind-sized : (knownKind k && fits k p) ≡ (not (eqb k ofNode) || nodeFits p)
       unfolding fits
       kind-sized =
           rw (known, le-leb (kindAt k .least) (length p) (rw least-at at a), le-leb (length p) (kindAt k .greatest) (rw greatest-at at b))
 
-      pub kind-node : k ≡ 5 → (knownKind k && fits k p) ≡ nodeFits p
-      kind-node e = kind-sized ∙ ap (λ (t : Bool). not t || nodeFits p) (eq-eqb k 5 e)
+      pub kind-node : k ≡ ofNode → (knownKind k && fits k p) ≡ nodeFits p
+      kind-node e = kind-sized ∙ ap (λ (t : Bool). not t || nodeFits p) (eq-eqb k ofNode e)
 
-      pub kind-other : (k ≡ 5 → ⊥) → (knownKind k && fits k p) ≡ true
-      kind-other n = kind-sized ∙ ap (λ (t : Bool). not t || nodeFits p) (ne-eqb k 5 n)
+      pub kind-other : (k ≡ ofNode → ⊥) → (knownKind k && fits k p) ≡ true
+      kind-other n = kind-sized ∙ ap (λ (t : Bool). not t || nodeFits p) (ne-eqb k ofNode n)
 
 -- RECORDS
 
@@ -130,21 +141,21 @@ module _ (s : List ℕ) (at : ℕ) where
       unfolding whole
       is-whole = rw (le-leb 4 (length r) (rw length-drop l), le-leb (4 + getD r 3 0) (length r) (rw (length-drop, byte 3) (omega arith)))
 
-      pub broken-mark : (getD s at 0 ≡ 0xB4 → ⊥) → framed r ≡ false
+      pub broken-mark : (getD s at 0 ≡ markFirst → ⊥) → framed r ≡ false
       unfolding framed marked
-      broken-mark n = rw (is-whole, ne-eqb (getD r 0 0) 0xB4 (λ e. n (sym first ∙ e)))
+      broken-mark n = rw (is-whole, ne-eqb (getD r 0 0) markFirst (λ e. n (sym first ∙ e)))
 
-      module _ (a : getD s at 0 ≡ 0xB4) where
-        pub broken-second : (getD s (at + 1) 0 ≡ 0x4D → ⊥) → framed r ≡ false
+      module _ (a : getD s at 0 ≡ markFirst) where
+        pub broken-second : (getD s (at + 1) 0 ≡ markSecond → ⊥) → framed r ≡ false
         unfolding framed marked
-        broken-second n = rw (is-whole, eq-eqb (getD r 0 0) 0xB4 (first ∙ a), ne-eqb (getD r 1 0) 0x4D (λ e. n (sym (byte 1) ∙ e)))
+        broken-second n = rw (is-whole, eq-eqb (getD r 0 0) markFirst (first ∙ a), ne-eqb (getD r 1 0) markSecond (λ e. n (sym (byte 1) ∙ e)))
 
-        module _ (b : getD s (at + 1) 0 ≡ 0x4D) where
+        module _ (b : getD s (at + 1) 0 ≡ markSecond) where
           -- then the payload decides
           pub framed-fits : framed r ≡ (knownKind (getD s (at + 2) 0) && fits (getD s (at + 2) 0) (take (getD s (at + 3) 0) (drop (at + 4) s)))
           unfolding framed marked kindOf payload
           framed-fits =
-              rw (is-whole, eq-eqb (getD r 0 0) 0xB4 (first ∙ a), eq-eqb (getD r 1 0) 0x4D (byte 1 ∙ b))
+              rw (is-whole, eq-eqb (getD r 0 0) markFirst (first ∙ a), eq-eqb (getD r 1 0) markSecond (byte 1 ∙ b))
               (ap₂ (λ (k : ℕ) (p : List ℕ). knownKind k && fits k p) (byte 2) (ap₂ (λ (n : ℕ) (l : List ℕ). take n l) (byte 3) (drop-drop 4 at s)))
 
           -- the same, of what code found of the part from at + 4 on

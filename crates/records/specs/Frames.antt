@@ -1,4 +1,4 @@
--- What stands at a place of a sheet.
+-- SCAFFOLDING. What stands at a place of a sheet.
 -- Assumes nothing.
 use Prim.Native.Nat.{ℕ, _+_}
 use mathlib.Core.Bool.{cond}

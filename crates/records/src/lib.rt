@@ -23,13 +23,13 @@ pub enum Record {
     Broken,
 }
 
-// For kinds 1 to 5: the least and the greatest length of the payload.
-const LEAST: [usize; 5] = [1, 2, 2, 4, 1];
+// For each kind, from 1 on: the least and the greatest length of the payload. A root's path stands behind its access and event.
+const LEAST: [usize; limits::KINDS] = [1, 2, 2, 2 + limits::ROOT_LEAST, 1];
 
-const GREATEST: [usize; 5] = [1, 2, 2, 122, 3];
+const GREATEST: [usize; limits::KINDS] = [1, 2, 2, 2 + limits::ROOT_MOST, 3];
 
 // How many operands each of the eight kinds of nodes takes.
-pub const OPERANDS: [usize; 8] = [0, 1, 1, 1, 2, 2, 1, 2];
+pub const OPERANDS: [usize; limits::NODE_KINDS] = [0, 1, 1, 1, 2, 2, 1, 2];
 
 // Whether p is a known node kind and that kind's operands.
 fn node_fits(p: &[u8]) -> bool
@@ -39,7 +39,7 @@ fn node_fits(p: &[u8]) -> bool
         return false;
     }
     let k = p[0];
-    if 8 <= k {
+    if limits::NODE_KINDS <= k as usize {
         return false;
     }
     p.len() - 1 == OPERANDS[k as usize]
@@ -52,7 +52,7 @@ fn fits(kind: u8, p: &[u8]) -> bool
     if kind < 1 {
         return false;
     }
-    if 5 < kind {
+    if limits::KINDS < kind as usize {
         return false;
     }
     let k = (kind - 1) as usize;
@@ -62,7 +62,7 @@ fn fits(kind: u8, p: &[u8]) -> bool
     if GREATEST[k] < p.len() {
         return false;
     }
-    if kind == 5 {
+    if kind == limits::NODE {
         return node_fits(p);
     }
     true
@@ -83,10 +83,10 @@ pub fn step_at(s: &[u8], at: usize) -> Record
     if s.len() - start < len {
         return Record::Broken;
     }
-    if s[at] != 0xB4 {
+    if s[at] != limits::MARK_FIRST {
         return Record::Broken;
     }
-    if s[at + 1] != 0x4D {
+    if s[at + 1] != limits::MARK_SECOND {
         return Record::Broken;
     }
     let kind = s[at + 2];

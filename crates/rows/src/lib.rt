@@ -2,34 +2,23 @@
 ghost use mathlib.Core.Path.{_≡_};
 ghost use mathlib.Core.Bool.{true, cond};
 ghost use Prim.Native.Nat.{_≤_, _<_};
+ghost use Rattle.meaning.specs.Limits.{eventsMost};
 ghost use Rattle.meaning.specs.Sets.{mem};
-ghost use Rattle.meaning.specs.Events.{possible as possibleBy};
+ghost use Rattle.meaning.specs.Events.{possible};
 ghost use Rattle.meaning.specs.Steps.{nodeBit, nextRow};
 ghost use Rattle.sheet.specs.Sound.{sound, rulesIn};
 ghost use Rattle.rows.specs.Needs.{NodeFits};
 use sheet::Sheet;
 
-// Bit i of a row.
-pub fn bit(row: u64, i: usize) -> bool
-    requires { ⌜ i < 64 ⌝ }
-    ensures { λ r. ⌜ r ≡ mem i row ⌝ }
-{
-    (row >> i) % 2 == 1
-}
-
-fn wide(x: u8) -> usize
-    ensures { λ r. ⌜ r ≡ x ⌝ }
-{
-    x as usize
-}
-
-// Whether event a conflicts with no member of x.
-fn possible(s: Sheet, a: usize, x: u32) -> bool
-    requires { ⌜ (a < 32) × (s .events ≤ 32) ⌝ }
-    ensures { λ r. ⌜ r ≡ possibleBy (rulesIn s) a x ⌝ }
+// What is asked of event a and a session x: whether it is there, or whether it is possible, that is, conflicts with no member.
+fn atom(s: Sheet, event: bool, a: usize, x: u32) -> bool
+    requires { ⌜ (a < eventsMost) × (s .events ≤ eventsMost) ⌝ }
+    ensures { λ r. ⌜ r ≡ cond event (mem a x) (possible (rulesIn s) a x) ⌝ }
 {
     let n = s.events;
-    events::apart(n, s.conflicts[a], x)
+    let there = events::has(x, a);
+    let free = events::apart(n, s.conflicts[a], x);
+    if event { there } else { free }
 }
 
 // Node n in a session x: `now` has the bits of the nodes before it, `before` the row of the session before.
@@ -38,16 +27,16 @@ fn node_bit(s: Sheet, before: u64, x: u32, now: u64, n: usize) -> bool
     ensures { λ r. ⌜ r ≡ nodeBit (rulesIn s) before x now n (rulesIn s .node n) ⌝ }
 {
     let k = s.kinds[n];
-    let a = wide(s.left[n]);
-    let b = wide(s.right[n]);
+    let a = bits::small(s.left[n]);
+    let b = bits::small(s.right[n]);
     match k {
-        1 => events::has(x, a),
-        2 => possible(s, a, x),
-        3 => !bit(now, a),
-        4 => bit(now, a) & bit(now, b),
-        5 => bit(now, a) | bit(now, b),
-        6 => bit(before, a),
-        7 => bit(now, b) | (bit(now, a) & bit(before, n)),
+        1 => atom(s, true, a, x),
+        2 => atom(s, false, a, x),
+        3 => !bits::bit(now, a),
+        4 => bits::bit(now, a) & bits::bit(now, b),
+        5 => bits::bit(now, a) | bits::bit(now, b),
+        6 => bits::bit(before, a),
+        7 => bits::bit(now, b) | (bits::bit(now, a) & bits::bit(before, n)),
         _ => true,
     }
 }
@@ -61,15 +50,9 @@ pub fn next_row(s: Sheet, before: u64, x: u32) -> u64
     let mut row: u64 = 0;
     let mut n: usize = 0;
     while n < nodes {
-        let b = one_if(node_bit(s, before, x, row, n));
+        let b = bits::one_if(node_bit(s, before, x, row, n));
         row = row + (b << n);
         n += 1;
     }
     row
-}
-
-fn one_if(b: bool) -> u64
-    ensures { λ r. ⌜ r ≡ cond b 1 0 ⌝ }
-{
-    if b { 1 } else { 0 }
 }

@@ -4,28 +4,29 @@ use Prim.Native.Nat.{ℕ, zero, suc, _+_, _-_, _≤_, _<_}
 use mathlib.Core.Path.{_≡_, refl, sym, ap, ap₂, _∙_}
 use mathlib.Core.Bool.{Bool, true, false, cond}
 use mathlib.Core.List.{List, [], _∷_}
-use native.Mathlib.Nat.{add-zero}
 use native.Mathlib.Omega.{arith}
 use lib.Dec.{eqb}
-use lib.ListN.{length, drop, length-append, length-drop, drop-of-length-le}
+use lib.ListN.{length, getD, set, drop, length-drop, drop-of-length-le}
 use borrow.Author.Tests.{ne-eqb, le-ltb, lt-ltb}
 use Rattle.meaning.specs.Lists.{isEmpty}
 use Rattle.meaning.specs.Sets.{setOf}
 use Rattle.meaning.specs.Events.{neededBy, conflictingWith}
 use Rattle.meaning.specs.Refusals.{good, refused}
 use Rattle.meaning.specs.Rules.{Node}
-use Rattle.meaning.specs.Sheet.{Item, Reading, nothingRead, behind, framed, itemOf, itemAt, keyOf, kindNumber, noted, afterItem, tally, itemFault, fault, walk, withNodes, sheetOf}
+use Rattle.meaning.specs.Limits.{sheetMost}
+use Rattle.meaning.specs.Records.{kindOf}
+use Rattle.meaning.specs.Sheet.{Item, Reading, nothingRead, payload, behind, framed, itemOf, itemAt, keyOf, noted, afterRecord, tally, nodeFits, itemFault, fault, walk, withNodes, sheetOf}
 use Rattle.meaning.specs.Sheet
-use Rattle.laws.proofs.Accepted.{Lawful, lawful-start, lawful-after, walk-end}
+use Rattle.laws.proofs.Accepted.{passed, Lawful, lawful-start, lawful-after, seen-after, walk-end}
 use Rattle.records.specs.declared.Frame.{Frame}
 use Rattle.records.specs.Frames.{frameAt}
 use Rattle.faults.specs.declared.Tally.{Tally}
 use Rattle.faults.specs.Tallies.{Inside, payloadIn, itemIn, tallied}
-use Rattle.faults.proofs.Order.{kind-number}
-use Rattle.faults.proofs.Framed.{frame-at, frame-known, frame-inside, frame-next, frame-item, frame-behind, frame-node}
+use Rattle.faults.proofs.Framed.{frame-at, frame-known, frame-inside, frame-next, frame-payload, frame-item, frame-behind, frame-node}
 use Rattle.sheet.specs.declared.Sheet.{Sheet}
 use Rattle.sheet.specs.declared.Loaded.{Loaded}
-use Rattle.sheet.specs.Loads.{tableOf, kindOfNode, leftOf, rightOf, nothing, stored, answered, putRecord, counted, noTally}
+use Rattle.sheet.specs.Loads.{tableOf, kindOfNode, leftOf, rightOf, nothing, stored, answered}
+use Rattle.sheet.specs.ByRecord.{putRecord, counted, noTally}
 use Rattle.sheet.proofs.Growing.{stored-after}
 
 -- WHAT STANDS FOR THE LISTS SO FAR
@@ -57,36 +58,10 @@ start s =
 
 walk-suc :
     (m : ℕ) (g : Reading) (r : List ℕ) → 0 < length r
-    → walk (suc m) g r ≡ cond (eqb (fault g r) 0) (walk m (afterItem g (itemAt r)) (behind r)) (refused (fault g r))
+    → walk (suc m) g r ≡ cond (eqb (fault g r) 0) (walk m (afterRecord g (kindOf r) (payload r)) (behind r)) (refused (fault g r))
 unfolding walk
 walk-suc m g [] l = absurd (omega arith)
 walk-suc m g (b ∷ r) l = refl
-
--- one record more of a kind is one more in its list
-module _ (s : Sheet.Sheet) where
-  more-causes : (i : Item) → length (s .causes) + cond (eqb (kindNumber i) 2) 1 0 ≡ length (noted s i .causes)
-  unfolding noted kindNumber
-  more-causes (Sheet.count n) = add-zero _
-  more-causes (Sheet.cause a b) = sym (length-append (s .causes) _)
-  more-causes (Sheet.conflict a b) = add-zero _
-  more-causes (Sheet.root r) = add-zero _
-  more-causes (Sheet.node v) = add-zero _
-
-  more-conflicts : (i : Item) → length (s .conflicts) + cond (eqb (kindNumber i) 3) 1 0 ≡ length (noted s i .conflicts)
-  unfolding noted kindNumber
-  more-conflicts (Sheet.count n) = add-zero _
-  more-conflicts (Sheet.cause a b) = add-zero _
-  more-conflicts (Sheet.conflict a b) = sym (length-append (s .conflicts) _)
-  more-conflicts (Sheet.root r) = add-zero _
-  more-conflicts (Sheet.node v) = add-zero _
-
-  more-roots : (i : Item) → length (s .roots) + cond (eqb (kindNumber i) 4) 1 0 ≡ length (noted s i .roots)
-  unfolding noted kindNumber
-  more-roots (Sheet.count n) = add-zero _
-  more-roots (Sheet.cause a b) = add-zero _
-  more-roots (Sheet.conflict a b) = add-zero _
-  more-roots (Sheet.root r) = sym (length-append (s .roots) _)
-  more-roots (Sheet.node v) = add-zero _
 
 module _ (s : List ℕ) (x : Sheet) (t : Tally) (at : ℕ) (w : Walking s x t at) where
   abbrev g : Reading
@@ -131,61 +106,69 @@ module _ (s : List ℕ) (x : Sheet) (t : Tally) (at : ℕ) (w : Walking s x t at
       abbrev y : Sheet
       y = putRecord x (fr .kind) (payloadIn s fr)
 
-      abbrev i : Item
-      i = itemAt rest
+      abbrev k : ℕ
+      k = kindOf rest
 
-      pub passes-by : itemFault (tally g) i ≡ 0
+      abbrev p : List ℕ
+      p = payload rest
+
+      pub passes-by : itemFault (tally g) (itemOf k p) ≡ 0
+      unfolding itemAt
       passes-by = sym (z ∙ ap₂ itemFault (w .stands .tallies) (frame-item s at e))
 
-      grown : y ≡ stored (noted (g .lists) i)
-      unfolding itemIn
+      grown : y ≡ stored (noted (g .lists) k p)
+      unfolding frameAt
       grown =
-          ap (λ (v : Sheet). putRecord v (fr .kind) (payloadIn s fr)) (w .stands .kept)
-          ∙ sym (stored-after g (w .stands .lawful) (fr .kind) (frame-known s at e .0) (frame-known s at e .1) (payloadIn s fr) (frame-node s at e) (ap (itemFault (tally g)) (frame-item s at e) ∙ passes-by))
-          ∙ ap (λ (j : Item). stored (noted (g .lists) j)) (frame-item s at e)
+          ap₂ (λ (v : Sheet) (l : List ℕ). putRecord v k l) (w .stands .kept) (frame-payload s at e)
+          ∙ sym
+          (stored-after g (w .stands .lawful) p k (frame-known s at e) (λ q. ap nodeFits (sym (frame-payload s at e)) ∙ frame-node s at e q) passes-by)
 
-      kind-is : fr .kind ≡ kindNumber i
-      unfolding itemIn
-      kind-is = sym (kind-number (fr .kind) (frame-known s at e .0) (frame-known s at e .1) (payloadIn s fr)) ∙ ap kindNumber (frame-item s at e)
+      counts : counted t fr (y .events) .seen ≡ tally (afterRecord g k p) .seen
+      unfolding counted frameAt tallied tally itemOf
+      counts =
+          ap (λ (l : List ℕ). set l (k - 1) (getD l (k - 1) 0 + 1)) (ap (λ (u : Sheet.Tally). u .seen) (w .stands .tallies))
+          ∙ sym (seen-after g k (frame-known s at e) p (passed (tally g) (itemOf k p) passes-by .ordered))
 
-      tally-is : tallied s (counted t fr (y .events) (y .nodes)) ≡ tally (afterItem g i)
-      unfolding tallied counted tally afterItem stored
+      tally-is : tallied s (counted t fr (y .events)) ≡ tally (afterRecord g k p)
+      unfolding tallied counted tally afterRecord stored frameAt itemIn
       tally-is = λ j.
           record {
-            kind = kind-is j;
-            key = keyOf (frame-item s at e j);
+            kind = k;
+            key = keyOf (itemOf k (frame-payload s at e j));
             events = grown j .events;
-            causes = (ap₂ (λ (a k : ℕ). a + cond (eqb k 2) 1 0) (ap (λ (u : Sheet.Tally). u .causes) (w .stands .tallies)) kind-is ∙ more-causes (g .lists) i) j;
-            conflicts = (ap₂ (λ (a k : ℕ). a + cond (eqb k 3) 1 0) (ap (λ (u : Sheet.Tally). u .conflicts) (w .stands .tallies)) kind-is ∙ more-conflicts (g .lists) i) j;
-            roots = (ap₂ (λ (a k : ℕ). a + cond (eqb k 4) 1 0) (ap (λ (u : Sheet.Tally). u .roots) (w .stands .tallies)) kind-is ∙ more-roots (g .lists) i) j;
-            nodes = grown j .nodes;
+            seen = counts j;
           }
 
-      pub goes-on : Walking s y (counted t fr (y .events) (y .nodes)) (fr .next)
-      unfolding counted afterItem
+      pub goes-on : Walking s y (counted t fr (y .events)) (fr .next)
+      unfolding counted afterRecord frameAt
       goes-on = go (w .steps) (w .enough) (w .same)
         where
-          go : (k : ℕ) → length s - at ≤ k → walk k g rest ≡ walk (length s) nothingRead s → Walking s y (counted t fr (y .events) (y .nodes)) (fr .next)
+          go : (n : ℕ) → length s - at ≤ n → walk n g rest ≡ walk (length s) nothingRead s → Walking s y (counted t fr (y .events)) (fr .next)
           go zero h q = absurd (let l = frame-at s at e in omega arith)
           go (suc m) h q =
               record {
-                reading = afterItem g i;
+                reading = afterRecord g k p;
                 stands =
-                    record { kept = grown; tallies = tally-is; inside = frame-inside s at e; lawful = lawful-after g (w .stands .lawful) i passes-by };
+                    record {
+                      kept = grown;
+                      tallies = tally-is;
+                      inside = frame-inside s at e;
+                      lawful = lawful-after g (w .stands .lawful) p k (frame-known s at e) passes-by;
+                    };
                 steps = m;
                 enough = let l = frame-next s at e in omega arith;
                 same =
-                    ap (walk m (afterItem g i)) (frame-behind s at e)
+                    ap (walk m (afterRecord g k p)) (frame-behind s at e)
                     ∙ sym (walk-suc m g rest (left (frame-at s at e)) ∙ rw (fault-is 0 z))
                     ∙ q;
               }
 
 -- THE ANSWER
 
-module _ (s : List ℕ) (h : length s ≤ 4096) where
+module _ (s : List ℕ) (h : length s ≤ sheetMost) where
   of-walk : sheetOf s ≡ withNodes (walk (length s) nothingRead s)
   unfolding sheetOf
-  of-walk = rw (le-ltb 4096 (length s) h)
+  of-walk = rw (le-ltb sheetMost (length s) h)
 
   pub answers-refused : (n : ℕ) → walk (length s) nothingRead s ≡ refused n → answered (refused n) ≡ answered (sheetOf s)
   unfolding withNodes
@@ -218,6 +201,6 @@ module _ (s : List ℕ) (h : length s ≤ 4096) where
         someone [] n = absurd (n refl)
         someone (v ∷ ns) n = refl
 
-pub answers-long : (s : List ℕ) → 4096 < length s → answered (refused 10) ≡ answered (sheetOf s)
+pub answers-long : (s : List ℕ) → sheetMost < length s → answered (refused 10) ≡ answered (sheetOf s)
 unfolding sheetOf
-answers-long s h = ap answered (rw (lt-ltb 4096 (length s) h))
+answers-long s h = ap answered (rw (lt-ltb sheetMost (length s) h))

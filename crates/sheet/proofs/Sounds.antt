@@ -9,6 +9,7 @@ use native.Mathlib.Omega.{arith}
 use lib.Dec.{eqb}
 use lib.ListN.{length, getD}
 use borrow.Author.Tests.{le-leb, lt-ltb, eqb-true}
+use Rattle.meaning.specs.Limits.{eventsMost, nodesMost, nodeKindsEnd}
 use Rattle.meaning.specs.Lists.{isEmpty}
 use Rattle.meaning.specs.Sets.{mem, setOf}
 use Rattle.meaning.specs.Rules.{Node}
@@ -19,13 +20,13 @@ use Rattle.meaning.specs.Sheet
 use Rattle.laws.proofs.Quantifiers.{or-cases, and-left, and-right, every-if}
 use Rattle.laws.proofs.SetLaws.{mem-of, setOf-lt, setOf-bound}
 use Rattle.laws.proofs.Chains.{some-pair-where, chain-sound, chain-ends}
-use Rattle.laws.proofs.Accepted.{Lawful, accepted, accepted-walk}
+use Rattle.laws.proofs.Accepted.{Lawful, few-nodes, accepted, accepted-walk}
 use Rattle.sheet.specs.Loads.{kindOfNode, leftOf, rightOf, stored}
 use Rattle.sheet.specs.Sound.{soundEvent, soundNode, sound}
 use Rattle.sheet.proofs.Tables.{table-at}
 
 -- the numbers of a node are those of a known kind, and make the node again
-pub node-again : (v : Node) → (kindOfNode v < 8) × (nodeOf (kindOfNode v) (leftOf v) (rightOf v) ≡ v)
+pub node-again : (v : Node) → (kindOfNode v < nodeKindsEnd) × (nodeOf (kindOfNode v) (leftOf v) (rightOf v) ≡ v)
 unfolding kindOfNode leftOf rightOf nodeOf nodeKind nodeKinds
 node-again Node.always = (omega arith, refl)
 node-again (Node.event e) = (omega arith, refl)
@@ -78,21 +79,26 @@ module _ (g : Reading) (w : Lawful g) where
   unfolding soundEvent stored
   event-sound e l =
       let few = w .few-events in
-      let small : e < 32 = omega arith in
-      rw (table-at 32 (neededBy (s .causes) n) e small, table-at 32 (conflictingWith (s .conflicts) n) e small, lt-ltb (neededBy (s .causes) n e) (2 ^ e) (needs-below e), lt-ltb (conflictingWith (s .conflicts) n e) (2 ^ n) (conflicts-inside e))
+      let small : e < eventsMost = omega arith in
+      rw (
+        table-at eventsMost (neededBy (s .causes) n) e small,
+        table-at eventsMost (conflictingWith (s .conflicts) n) e small,
+        lt-ltb (neededBy (s .causes) n e) (2 ^ e) (needs-below e),
+        lt-ltb (conflictingWith (s .conflicts) n e) (2 ^ n) (conflicts-inside e),
+      )
       (ap not (not-itself e))
 
   node-sound : (k : ℕ) → k < length (s .nodes) → soundNode (stored s .kinds) (stored s .left) (stored s .right) n k ≡ true
   unfolding soundNode stored
   node-sound k l =
-      let few = w .few-nodes in
-      let small : k < 64 = omega arith in
+      let few = few-nodes g w in
+      let small : k < nodesMost = omega arith in
       let v : Node = getD (s .nodes) k Node.always in
       rw (
-        table-at 64 (λ i. kindOfNode (getD (s .nodes) i Node.always)) k small,
-        table-at 64 (λ i. leftOf (getD (s .nodes) i Node.always)) k small,
-        table-at 64 (λ i. rightOf (getD (s .nodes) i Node.always)) k small,
-        lt-ltb (kindOfNode v) 8 (node-again v .0),
+        table-at nodesMost (λ i. kindOfNode (getD (s .nodes) i Node.always)) k small,
+        table-at nodesMost (λ i. leftOf (getD (s .nodes) i Node.always)) k small,
+        table-at nodesMost (λ i. rightOf (getD (s .nodes) i Node.always)) k small,
+        lt-ltb (kindOfNode v) nodeKindsEnd (node-again v .0),
         node-again v .1,
       )
       (w .nodes-in k l)
@@ -102,9 +108,9 @@ module _ (g : Reading) (w : Lawful g) where
   lawful-sound l k =
       rw (
         le-leb 1 n l,
-        le-leb n 32 (w .few-events),
+        le-leb n eventsMost (w .few-events),
         le-leb 1 (length (s .nodes)) k,
-        le-leb (length (s .nodes)) 64 (w .few-nodes),
+        le-leb (length (s .nodes)) nodesMost (few-nodes g w),
         every-if (soundEvent (stored s .needs) (stored s .conflicts) n) n event-sound,
         every-if (soundNode (stored s .kinds) (stored s .left) (stored s .right) n) (length (s .nodes)) node-sound,
       )

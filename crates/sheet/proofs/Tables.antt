@@ -1,4 +1,4 @@
--- Tables, and sets in 32 bits.
+-- Tables, and powers of two in a word.
 -- Assumes nothing.
 use Prim.Native.Nat.{ℕ, zero, suc, _*_, _%_, _^_, _≤_, _<_}
 use mathlib.Core.Path.{_≡_, refl, sym, ap, _∙_}
@@ -13,10 +13,11 @@ use lib.ListN.{length, getD, set, length-append, length-set, List·getD-append}
 use lib.Pow.{pow-lt}
 use lib.Seq.{getD-at, getD-set-same, getD-set-other, ext-getD}
 use borrow.Author.Tests.{eqb-true, eqb-false}
+use Rattle.meaning.specs.Limits.{eventsMost, wordBits}
 use Rattle.sheet.specs.Loads.{tableOf}
 
-pub one-shl-wide : (n : ℕ) → n ≤ 32 → 1 * 2 ^ n % 2 ^ 64 ≡ 2 ^ n
-one-shl-wide n h = ap (λ (x : ℕ). x % 2 ^ 64) (one-mul (2 ^ n)) ∙ mod-eq-of-lt (pow-lt (let l : n < 64 = omega arith in l))
+pub one-shl-wide : (n : ℕ) → n ≤ eventsMost → 1 * 2 ^ n % 2 ^ wordBits ≡ 2 ^ n
+one-shl-wide n h = ap (λ (x : ℕ). x % 2 ^ wordBits) (one-mul (2 ^ n)) ∙ mod-eq-of-lt (pow-lt (let l : n < wordBits = omega arith in l))
 
 pub table-length : (n : ℕ) (f : ℕ → ℕ) → length (tableOf n f) ≡ n
 unfolding tableOf

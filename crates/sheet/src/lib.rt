@@ -1,11 +1,11 @@
 // The loader: from a sheet's bytes to a loaded sheet, or the number of the refusal. One pass, record by record; the earliest faulty record decides.
 ghost use mathlib.Core.Path.{_≡_};
-ghost use mathlib.Core.List.{List};
-ghost use Prim.Native.Nat.{ℕ, _≤_, _<_};
-ghost use mathlib.Core.Bool.{cond};
-ghost use Rattle.meaning.specs.Refusals.{Answer, refused};
-ghost use Rattle.meaning.specs.Sheet.{itemOf, sheetOf};
-ghost use Rattle.sheet.specs.Loads.{Fitting, nothing, answered, putCount, putCause, putConflict, putNode, putRecord, counted, noTally};
+ghost use Prim.Native.Nat.{_<_};
+ghost use Rattle.meaning.specs.Limits.{eventsMost};
+ghost use Rattle.meaning.specs.Refusals.{refused};
+ghost use Rattle.meaning.specs.Sheet.{sheetOf};
+ghost use Rattle.sheet.specs.Loads.{nothing, answered};
+ghost use Rattle.sheet.specs.ByRecord.{withCause, withConflict, Fitting, putRecord, Countable, counted, noTally};
 use faults::Tally;
 use faults::keys;
 use records::Frame;
@@ -17,19 +17,42 @@ mod soundness;
 pub struct Sheet {
     pub events: usize,
     // For each event the set of those that it needs, and of those that it conflicts with.
-    pub needs: [u32; 32],
-    pub conflicts: [u32; 32],
+    pub needs: [u32; limits::EVENTS],
+    pub conflicts: [u32; limits::EVENTS],
     pub nodes: usize,
     // For each node its kind and its operands, 0 where it has none.
-    pub kinds: [u8; 64],
-    pub left: [u8; 64],
-    pub right: [u8; 64],
+    pub kinds: [u8; limits::NODES],
+    pub left: [u8; limits::NODES],
+    pub right: [u8; limits::NODES],
 }
 
 // The loaded sheet and 0; or the number of the refusal, and a sheet whose every number is 0.
 pub struct Loaded {
     pub number: u32,
     pub sheet: Sheet,
+}
+
+// b needs a, and whatever a needs.
+fn with_cause(mut needs: [u32; limits::EVENTS], a: u8, b: u8) -> [u32; limits::EVENTS]
+    requires { ⌜ (a < eventsMost) × (b < eventsMost) ⌝ }
+    ensures { λ r. ⌜ r ≡ withCause needs a b ⌝ }
+{
+    let x = a as usize;
+    let y = b as usize;
+    needs[y] = needs[y] | needs[x] | (1 << a);
+    needs
+}
+
+// a and b conflict, both ways.
+fn with_conflict(mut conflicts: [u32; limits::EVENTS], a: u8, b: u8) -> [u32; limits::EVENTS]
+    requires { ⌜ (a < eventsMost) × (b < eventsMost) ⌝ }
+    ensures { λ r. ⌜ r ≡ withConflict conflicts a b ⌝ }
+{
+    let x = a as usize;
+    let y = b as usize;
+    conflicts[x] = conflicts[x] | (1 << b);
+    conflicts[y] = conflicts[y] | (1 << a);
+    conflicts
 }
 
 impl Sheet {
@@ -39,99 +62,59 @@ impl Sheet {
     {
         Self {
             events: 0,
-            needs: [0; 32],
-            conflicts: [0; 32],
+            needs: [0; limits::EVENTS],
+            conflicts: [0; limits::EVENTS],
             nodes: 0,
-            kinds: [0; 64],
-            left: [0; 64],
-            right: [0; 64],
+            kinds: [0; limits::NODES],
+            left: [0; limits::NODES],
+            right: [0; limits::NODES],
         }
     }
 
-    fn with_count(mut self, n: u8) -> Self
-        ensures { λ r. ⌜ r ≡ putCount self n ⌝ }
-    {
-        self.events = n as usize;
-        self
-    }
-
-    // b needs a, and whatever a needs.
-    fn with_cause(mut self, a: u8, b: u8) -> Self
-        requires { ⌜ (a < 32) × (b < 32) ⌝ }
-        ensures { λ r. ⌜ r ≡ putCause self a b ⌝ }
-    {
-        let x = a as usize;
-        let y = b as usize;
-        self.needs[y] = self.needs[y] | self.needs[x] | (1 << a);
-        self
-    }
-
-    fn with_conflict(mut self, a: u8, b: u8) -> Self
-        requires { ⌜ (a < 32) × (b < 32) ⌝ }
-        ensures { λ r. ⌜ r ≡ putConflict self a b ⌝ }
-    {
-        let x = a as usize;
-        let y = b as usize;
-        self.conflicts[x] = self.conflicts[x] | (1 << b);
-        self.conflicts[y] = self.conflicts[y] | (1 << a);
-        self
-    }
-
-    fn with_node(mut self, kind: u8, a: u8, b: u8) -> Self
-        requires { ⌜ self .nodes < 64 ⌝ }
-        ensures { λ r. ⌜ r ≡ putNode self kind a b ⌝ }
-    {
-        let n = self.nodes;
-        self.kinds[n] = kind;
-        self.left[n] = a;
-        self.right[n] = b;
-        self.nodes = n + 1;
-        self
-    }
-
-    // What a record of the kind with this payload adds.
-    fn with_record(self, kind: u8, p: &[u8]) -> Self
-        requires { ⌜ (1 ≤ kind) × (kind ≤ 5) × Fitting (self .events) (self .nodes) (itemOf kind (now p)) ⌝ }
+    // The sheet with what a record of the kind with this payload adds. Roots are read from the bytes, and not kept.
+    fn with_record(mut self, kind: u8, p: &[u8]) -> Self
+        requires { ⌜ Fitting (self .nodes) kind (now p) ⌝ }
         ensures { λ r. ⌜ r ≡ putRecord self kind (now (p .entry)) ⌝ }
     {
         let a = keys::byte(p, 0);
         let b = keys::byte(p, 1);
-        if kind == 1 {
-            return self.with_count(a);
-        }
-        if kind == 2 {
-            return self.with_cause(a, b);
-        }
-        if kind == 3 {
-            return self.with_conflict(a, b);
-        }
-        if kind == 4 {
+        let c = keys::byte(p, 2);
+        if kind == limits::COUNT {
+            self.events = a as usize;
             return self;
         }
-        self.with_node(a, b, keys::byte(p, 2))
+        if kind == limits::CAUSE {
+            let needs = with_cause(self.needs, a, b);
+            self.needs = needs;
+            return self;
+        }
+        if kind == limits::CONFLICT {
+            let conflicts = with_conflict(self.conflicts, a, b);
+            self.conflicts = conflicts;
+            return self;
+        }
+        if kind == limits::NODE {
+            let n = self.nodes;
+            self.kinds[n] = a;
+            self.left[n] = b;
+            self.right[n] = c;
+            self.nodes = n + 1;
+            return self;
+        }
+        self
     }
 }
 
-fn one_if(b: bool) -> usize
-    ensures { λ r. ⌜ (r ≡ cond b 1 0) × (r ≤ 1) ⌝ }
+// The tally after a record, with the number of events as it is then.
+fn tally_after(mut t: Tally, f: Frame, events: usize) -> Tally
+    requires { ⌜ Countable t f ⌝ }
+    ensures { λ r. ⌜ r ≡ counted t f events ⌝ }
 {
-    if b { 1 } else { 0 }
-}
-
-// The tally after a record, with the numbers of events and nodes as they are then.
-fn tally_after(t: Tally, f: Frame, events: usize, nodes: usize) -> Tally
-    requires { ⌜ (t .causes ≤ 64) × (t .conflicts ≤ 64) × (t .roots ≤ 16) ⌝ }
-    ensures { λ r. ⌜ r ≡ counted t f events nodes ⌝ }
-{
-    let kind = f.kind;
-    Tally {
-        last: f,
-        events,
-        causes: t.causes + one_if(kind == 2),
-        conflicts: t.conflicts + one_if(kind == 3),
-        roots: t.roots + one_if(kind == 4),
-        nodes,
-    }
+    let k = (f.kind - 1) as usize;
+    t.seen[k] = t.seen[k] + 1;
+    t.last = f;
+    t.events = events;
+    t
 }
 
 fn refusal(number: u32) -> Loaded
@@ -154,10 +137,7 @@ fn no_tally() -> Tally
             next: 0,
         },
         events: 0,
-        causes: 0,
-        conflicts: 0,
-        roots: 0,
-        nodes: 0,
+        seen: [0; limits::KINDS],
     }
 }
 
@@ -165,7 +145,7 @@ fn no_tally() -> Tally
 pub fn load(s: &[u8]) -> Loaded
     ensures { λ r. ⌜ r ≡ answered (sheetOf (now (s .entry))) ⌝ }
 {
-    if 4096 < s.len() {
+    if limits::SHEET < s.len() {
         return refusal(10);
     }
     let mut sheet = Sheet::empty();
@@ -181,7 +161,7 @@ pub fn load(s: &[u8]) -> Loaded
         }
         let kind = f.kind;
         sheet = sheet.with_record(kind, faults::payload(s, f));
-        t = tally_after(t, f, sheet.events, sheet.nodes);
+        t = tally_after(t, f, sheet.events);
         at = f.next;
     }
     if sheet.nodes == 0 {

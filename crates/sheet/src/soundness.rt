@@ -1,42 +1,35 @@
 // Whether a stored sheet is sound: it holds no number that a sheet's own refusals 11, 13, 15 or 16 would turn away.
 ghost use mathlib.Core.Path.{_≡_};
 ghost use Prim.Native.Nat.{_≤_, _^_};
-ghost use Rattle.meaning.specs.Sets.{every, mem};
+ghost use Rattle.meaning.specs.Limits.{eventsMost, nodesMost};
+ghost use Rattle.meaning.specs.Sets.{every};
 ghost use Rattle.sheet.specs.Sound.{soundEvent, soundNode, sound};
 use crate::Sheet;
 use faults::ranges;
 
-fn wide(x: u32) -> u64
-    ensures { λ r. ⌜ r ≡ x ⌝ }
-{
-    x as u64
-}
-
 fn power(n: usize) -> u64
-    requires { ⌜ n ≤ 32 ⌝ }
+    requires { ⌜ n ≤ eventsMost ⌝ }
     ensures { λ r. ⌜ r ≡ 2 ^ n ⌝ }
 {
     1 << n
 }
 
-fn has(x: u32, e: usize) -> bool
-    requires { ⌜ e ≤ 31 ⌝ }
-    ensures { λ r. ⌜ r ≡ mem e x ⌝ }
-{
-    (x >> e) % 2 == 1
-}
-
 // Each event needs lower ones only, and conflicts with events of the sheet other than itself.
-fn events_sound(needs: [u32; 32], conflicts: [u32; 32], events: usize) -> bool
-    requires { ⌜ events ≤ 32 ⌝ }
+fn events_sound(
+    needs: [u32; limits::EVENTS],
+    conflicts: [u32; limits::EVENTS],
+    events: usize,
+) -> bool
+    requires { ⌜ events ≤ eventsMost ⌝ }
     ensures { λ r. ⌜ r ≡ every events (soundEvent needs conflicts events) ⌝ }
 {
     let mut ok = true;
     let mut e: usize = 0;
     while e < events {
-        let below = wide(needs[e]) < power(e);
-        let inside = wide(conflicts[e]) < power(events);
-        let good = below & inside & !has(conflicts[e], e);
+        let below = bits::wide(needs[e]) < power(e);
+        let against = bits::wide(conflicts[e]);
+        let inside = against < power(events);
+        let good = below & inside & !bits::bit(against, e);
         ok = ok & good;
         e += 1;
     }
@@ -45,20 +38,21 @@ fn events_sound(needs: [u32; 32], conflicts: [u32; 32], events: usize) -> bool
 
 // Each node is of a known kind, names events of the sheet, and uses earlier nodes only.
 fn nodes_sound(
-    kinds: [u8; 64],
-    left: [u8; 64],
-    right: [u8; 64],
+    kinds: [u8; limits::NODES],
+    left: [u8; limits::NODES],
+    right: [u8; limits::NODES],
     events: usize,
     nodes: usize,
 ) -> bool
-    requires { ⌜ nodes ≤ 64 ⌝ }
+    requires { ⌜ nodes ≤ nodesMost ⌝ }
     ensures { λ r. ⌜ r ≡ every nodes (soundNode kinds left right events) ⌝ }
 {
     let mut ok = true;
     let mut n: usize = 0;
     while n < nodes {
         let k = kinds[n];
-        let good = (k < 8) & ranges::node_ok(k, left[n], right[n], events, n);
+        let known = (k as usize) < limits::NODE_KINDS;
+        let good = known & ranges::node_ok(k, left[n], right[n], events, n);
         ok = ok & good;
         n += 1;
     }
@@ -74,13 +68,13 @@ impl Sheet {
         if events < 1 {
             return false;
         }
-        if 32 < events {
+        if limits::EVENTS < events {
             return false;
         }
         if nodes < 1 {
             return false;
         }
-        if 64 < nodes {
+        if limits::NODES < nodes {
             return false;
         }
         let needs = self.needs;

@@ -109,6 +109,25 @@ fn wide(c: u8) -> u64
     c as u64
 }
 
+// n with the decimal digit c behind it, if c is one and the number fits.
+fn with_digit(n: u64, c: u8) -> Number {
+    if c < b'0' {
+        return Number::Wrong;
+    }
+    if b'9' < c {
+        return Number::Wrong;
+    }
+    let d = wide(c - b'0');
+    if 1844674407370955161 < n {
+        return Number::Wrong;
+    }
+    let tens = n * 10;
+    if u64::MAX - tens < d {
+        return Number::Wrong;
+    }
+    Number::Is(tens + d)
+}
+
 // The number that s says in decimal, if that is all it says and the number fits.
 pub fn decimal(s: &[u8]) -> Number {
     if s.len() == 0 {
@@ -117,22 +136,10 @@ pub fn decimal(s: &[u8]) -> Number {
     let mut n: u64 = 0;
     let mut i = 0;
     while i < s.len() {
-        let c = s[i];
-        if c < b'0' {
+        let Number::Is(more) = with_digit(n, s[i]) else {
             return Number::Wrong;
-        }
-        if b'9' < c {
-            return Number::Wrong;
-        }
-        let d = wide(c - b'0');
-        if 1844674407370955161 < n {
-            return Number::Wrong;
-        }
-        let tens = n * 10;
-        if u64::MAX - tens < d {
-            return Number::Wrong;
-        }
-        n = tens + d;
+        };
+        n = more;
         i += 1;
     }
     Number::Is(n)

@@ -3,11 +3,11 @@
 use Prim.Native.Nat.{ℕ, zero, suc, _+_, _-_, _≤_, _<_}
 use mathlib.Core.Path.{_≡_, refl, sym, ap, _∙_}
 use mathlib.Core.Bool.{Bool, true, false, cond}
-use mathlib.Core.List.{List, [], _∷_, _++_}
+use mathlib.Core.List.{List, [], _∷_}
 use native.Mathlib.Numerals.{add-one}
 use native.Mathlib.Omega.{arith}
-use lib.ListN.{length, getD, set, take, drop, replicate, length-take, length-drop, drop-of-length-le}
-use lib.Seq.{length-take-le, getD-take, getD-drop, drop-cons, set-at, append-snoc, take-suc}
+use lib.ListN.{length, getD, set, take, drop, length-take, drop-of-length-le}
+use lib.Seq.{length-take-le, getD-take, drop-cons}
 use Rattle.meaning.specs.Rules.{Rules}
 use Rattle.meaning.specs.Events.{possible, supported, addable, closed}
 use Rattle.meaning.specs.Steps.{nextRow}
@@ -70,22 +70,6 @@ module _ (r : Rules) (sets : List ℕ) (kept : ℕ) (h : kept ≤ length sets) w
   pub run-ends : (k : ℕ) → kept ≤ k → letGo r (drop k front) ≡ 0
   unfolding letGo
   run-ends k l = ap (letGo r) (drop-of-length-le front {i = k} (rw front-length l))
-
--- MOVING UP
-
--- the first i of the places behind k, and 0 in the others
-abbrev pub moving : ℕ → ℕ → List ℕ → List ℕ
-moving k i l = take i (drop k l) ++ replicate (64 - i) 0
-
-pub moving-more : (k i : ℕ) (l : List ℕ) → k + i < length l → i < 64 → set (moving k i l) i (getD l (k + i) 0) ≡ moving k (i + 1) l
-moving-more k i l h m =
-    let inside : i < length (drop k l) = rw length-drop (omega arith) in
-    let room : 64 - i ≡ suc (64 - (i + 1)) = omega arith in
-    ap (λ (n : ℕ). set (take i (drop k l) ++ replicate n 0) i (getD l (k + i) 0)) room
-    ∙ set-at (take i (drop k l)) 0 (replicate (64 - (i + 1)) 0) (getD l (k + i) 0) i (length-take-le i (drop k l) (omega arith))
-    ∙ ap (λ (x : ℕ). take i (drop k l) ++ x ∷ replicate (64 - (i + 1)) 0) (sym (getD-drop k l i 0))
-    ∙ sym (append-snoc (take i (drop k l)) (getD (drop k l) i 0) (replicate (64 - (i + 1)) 0))
-    ∙ ap (λ (xs : List ℕ). xs ++ replicate (64 - (i + 1)) 0) (sym (take-suc (drop k l) i 0 inside) ∙ ap (λ (n : ℕ). take n (drop k l)) (sym (add-one i)))
 
 -- no more are let go than there are
 pub front-le : (r : Rules) (l : List ℕ) → letGo r l ≤ length l

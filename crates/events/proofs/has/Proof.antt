@@ -1,20 +1,18 @@
 -- `events::has` meets its contract.
 -- Assumes nothing.
-use mathlib.Core.Path.{refl}
-use native.Mathlib.Omega.{arith}
-use Rattle.meaning.specs.Sets.{mem}
+use mathlib.Core.Path.{_∙_}
+use borrow.Author.Needs.{needs}
 use Rattle.events.proofs.has.Statement.{statement}
 use Rattle.events.proofs.has.Tie as tie
 
-cast-result : tie.Need-cast-result
-cast-result c = omega arith
+wide-requires : tie.Need-wide-requires
+wide-requires c κs = search needs
 
-shr-result : tie.Need-shr-result
-shr-result c = omega arith
+bit-requires : tie.Need-bit-requires
+bit-requires c κs = search needs
 
 returns : tie.Need-returns
-unfolding mem
-returns c = refl
+returns c = rw (c .bit .ensures, c .before .wide .ensures)
 
 pub has-spec : {M : Type 1} → statement M
-has-spec = tie.close (tie.spec cast-result shr-result returns)
+has-spec = tie.close (tie.spec wide-requires bit-requires returns)

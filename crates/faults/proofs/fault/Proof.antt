@@ -15,11 +15,11 @@ payload-requires-2 c κs = search needs
 disordered-requires : tie.Need-disordered-requires
 disordered-requires c κs = search needs
 
-sub-full : tie.Need-sub-full
-sub-full c = search needs
+sub-k : tie.Need-sub-k
+sub-k c = search needs
 
-cast-full : tie.Need-cast-full
-cast-full c = search needs
+cast-k : tie.Need-cast-k
+cast-k c = search needs
 
 mul-full : tie.Need-mul-full
 mul-full c = search needs
@@ -27,8 +27,14 @@ mul-full c = search needs
 array-read-full : tie.Need-array-read-full
 array-read-full c = search needs
 
-so-far-requires : tie.Need-so-far-requires
-so-far-requires c κs = search needs
+mul-full-2 : tie.Need-mul-full-2
+mul-full-2 c = search needs
+
+element-copy-out-full : tie.Need-element-copy-out-full
+element-copy-out-full c = search needs
+
+element-copy-out-earlier : tie.Need-element-copy-out-earlier
+element-copy-out-earlier c = search needs
 
 in-range-requires : tie.Need-in-range-requires
 in-range-requires c κs = search needs
@@ -37,19 +43,66 @@ malformed-requires : tie.Need-malformed-requires
 malformed-requires c κs = search needs
 
 returns : tie.Need-returns
-returns c = fault-order (c .before .before .before .before .before .before .before .before .before .args .s .now) (c .before .before .before .before .before .before .before .before .before .args .t) (c .before .before .before .before .before .before .before .before .before .args .f) (c .before .before .before .before .before .before .before .before .before .pre .2) (c .before .before .before .before .before .before .before .before .before .pre .3) (c .before .before .before .before .before .payload2 .result .now) (c .before .before .before .before .before .before .payload .result .now) (c .before .before .before .before .before .payload2 .ensures) (c .before .before .before .before .before .before .payload .ensures) (c .before .before .before .before .disordered .result) (c .before .before .before .before .disordered .ensures) (c .if1 .taken)
+returns c =
+    let start = c .before .before .before .before .before .before .before .before .before .before in
+    let payload2 = c .before .before .before .before .before .before .payload2 in
+    let payload = c .before .before .before .before .before .before .before .payload in
+    let disordered = c .before .before .before .before .before .disordered in
+    fault-order (start .args .s .now) (start .args .t2) (start .args .f) (start .pre .2) (payload2 .result .now) (payload .result .now)
+    (payload2 .ensures) (payload .ensures) (disordered .result) (disordered .ensures) (c .if1 .taken)
 
 returns-2 : tie.Need-returns-2
-returns-2 c = fault-most (c .before .before .before .before .before .before .before .before .before .before .args .s .now) (c .before .before .before .before .before .before .before .before .before .before .args .t) (c .before .before .before .before .before .before .before .before .before .before .args .f) (c .before .before .before .before .before .before .before .before .before .before .pre .2) (c .before .before .before .before .before .before .before .before .before .before .pre .3) (c .before .before .before .before .before .before .payload2 .result .now) (c .before .before .before .before .before .before .before .payload .result .now) (c .before .before .before .before .before .before .payload2 .ensures) (c .before .before .before .before .before .before .before .payload .ensures) (c .before .before .before .before .before .disordered .result) (c .before .before .before .before .before .disordered .ensures) (c .before .if1 .left) (c .before .before .before .before .so-far .result) (c .before .before .before .before .so-far .ensures (c .before .before .before .before .before .before .before .before .before .before .args .s .now) (c .before .before .before .before .before .before .before .payload .result .now)) (c .if2 .taken)
+returns-2 c =
+    let start = c .before .before .before .before .before .before .before .before .before .before .before in
+    let payload2 = c .before .before .before .before .before .before .before .payload2 in
+    let payload = c .before .before .before .before .before .before .before .before .payload in
+    let disordered = c .before .before .before .before .before .before .disordered in
+    let if1 = c .before .if1 in
+    fault-most (start .args .s .now) (start .args .t2) (start .args .f) (start .pre .2) (payload2 .result .now) (payload .result .now)
+    (payload2 .ensures) (payload .ensures) (disordered .result) (disordered .ensures) (if1 .left) (c .if2 .taken)
 
 returns-3 : tie.Need-returns-3
-returns-3 c = fault-range (c .before .before .before .before .before .before .before .before .before .before .before .args .s .now) (c .before .before .before .before .before .before .before .before .before .before .before .args .t) (c .before .before .before .before .before .before .before .before .before .before .before .args .f) (c .before .before .before .before .before .before .before .before .before .before .before .pre .2) (c .before .before .before .before .before .before .before .before .before .before .before .pre .3) (c .before .before .before .before .before .before .before .payload2 .result .now) (c .before .before .before .before .before .before .before .before .payload .result .now) (c .before .before .before .before .before .before .before .payload2 .ensures) (c .before .before .before .before .before .before .before .before .payload .ensures) (c .before .before .before .before .before .before .disordered .result) (c .before .before .before .before .before .before .disordered .ensures) (c .before .before .if1 .left) (c .before .before .before .before .before .so-far .result) (c .before .before .before .before .before .so-far .ensures (c .before .before .before .before .before .before .before .before .before .before .before .args .s .now) (c .before .before .before .before .before .before .before .before .payload .result .now)) (c .before .if2 .left) (c .before .before .before .before .in-range .result) (c .before .before .before .before .in-range .ensures) (not-true (c .before .before .before .before .in-range .result) (c .if3 .taken))
+returns-3 c =
+    let start = c .before .before .before .before .before .before .before .before .before .before .before .before in
+    let payload2 = c .before .before .before .before .before .before .before .before .payload2 in
+    let payload = c .before .before .before .before .before .before .before .before .before .payload in
+    let disordered = c .before .before .before .before .before .before .before .disordered in
+    let if1 = c .before .before .if1 in
+    let if2 = c .before .if2 in
+    let in-range = c .before .before .before .before .in-range in
+    fault-range (start .args .s .now) (start .args .t2) (start .args .f) (start .pre .2) (payload2 .result .now) (payload .result .now)
+    (payload2 .ensures) (payload .ensures) (disordered .result) (disordered .ensures) (if1 .left) (if2 .left) (in-range .result) (in-range .ensures)
+    (not-true (in-range .result) (c .if3 .taken))
 
 returns-4 : tie.Need-returns-4
-returns-4 c = fault-form (c .before .before .before .before .before .before .before .before .before .before .before .before .args .s .now) (c .before .before .before .before .before .before .before .before .before .before .before .before .args .t) (c .before .before .before .before .before .before .before .before .before .before .before .before .args .f) (c .before .before .before .before .before .before .before .before .before .before .before .before .pre .2) (c .before .before .before .before .before .before .before .before .before .before .before .before .pre .3) (c .before .before .before .before .before .before .before .before .payload2 .result .now) (c .before .before .before .before .before .before .before .before .before .payload .result .now) (c .before .before .before .before .before .before .before .before .payload2 .ensures) (c .before .before .before .before .before .before .before .before .before .payload .ensures) (c .before .before .before .before .before .before .before .disordered .result) (c .before .before .before .before .before .before .before .disordered .ensures) (c .before .before .before .if1 .left) (c .before .before .before .before .before .before .so-far .result) (c .before .before .before .before .before .before .so-far .ensures (c .before .before .before .before .before .before .before .before .before .before .before .before .args .s .now) (c .before .before .before .before .before .before .before .before .before .payload .result .now)) (c .before .before .if2 .left) (c .before .before .before .before .before .in-range .result) (c .before .before .before .before .before .in-range .ensures) (not-false (c .before .before .before .before .before .in-range .result) (c .before .if3 .left)) (c .before .before .before .before .malformed .result) (c .before .before .before .before .malformed .ensures) (c .if4 .taken)
+returns-4 c =
+    let start = c .before .before .before .before .before .before .before .before .before .before .before .before .before in
+    let payload2 = c .before .before .before .before .before .before .before .before .before .payload2 in
+    let payload = c .before .before .before .before .before .before .before .before .before .before .payload in
+    let disordered = c .before .before .before .before .before .before .before .before .disordered in
+    let if1 = c .before .before .before .if1 in
+    let if2 = c .before .before .if2 in
+    let in-range = c .before .before .before .before .before .in-range in
+    let if3 = c .before .if3 in
+    let malformed = c .before .before .before .before .malformed in
+    fault-form (start .args .s .now) (start .args .t2) (start .args .f) (start .pre .2) (payload2 .result .now) (payload .result .now)
+    (payload2 .ensures) (payload .ensures) (disordered .result) (disordered .ensures) (if1 .left) (if2 .left) (in-range .result) (in-range .ensures) (not-false (in-range .result) (if3 .left))
+    (malformed .result) (malformed .ensures) (c .if4 .taken)
 
 returns-5 : tie.Need-returns-5
-returns-5 c = fault-none (c .before .before .before .before .before .before .before .before .before .before .before .before .args .s .now) (c .before .before .before .before .before .before .before .before .before .before .before .before .args .t) (c .before .before .before .before .before .before .before .before .before .before .before .before .args .f) (c .before .before .before .before .before .before .before .before .before .before .before .before .pre .2) (c .before .before .before .before .before .before .before .before .before .before .before .before .pre .3) (c .before .before .before .before .before .before .before .before .payload2 .result .now) (c .before .before .before .before .before .before .before .before .before .payload .result .now) (c .before .before .before .before .before .before .before .before .payload2 .ensures) (c .before .before .before .before .before .before .before .before .before .payload .ensures) (c .before .before .before .before .before .before .before .disordered .result) (c .before .before .before .before .before .before .before .disordered .ensures) (c .before .before .before .if1 .left) (c .before .before .before .before .before .before .so-far .result) (c .before .before .before .before .before .before .so-far .ensures (c .before .before .before .before .before .before .before .before .before .before .before .before .args .s .now) (c .before .before .before .before .before .before .before .before .before .payload .result .now)) (c .before .before .if2 .left) (c .before .before .before .before .before .in-range .result) (c .before .before .before .before .before .in-range .ensures) (not-false (c .before .before .before .before .before .in-range .result) (c .before .if3 .left)) (c .before .before .before .before .malformed .result) (c .before .before .before .before .malformed .ensures) (c .if4 .left)
+returns-5 c =
+    let start = c .before .before .before .before .before .before .before .before .before .before .before .before .before in
+    let payload2 = c .before .before .before .before .before .before .before .before .before .payload2 in
+    let payload = c .before .before .before .before .before .before .before .before .before .before .payload in
+    let disordered = c .before .before .before .before .before .before .before .before .disordered in
+    let if1 = c .before .before .before .if1 in
+    let if2 = c .before .before .if2 in
+    let in-range = c .before .before .before .before .before .in-range in
+    let if3 = c .before .if3 in
+    let malformed = c .before .before .before .before .malformed in
+    fault-none (start .args .s .now) (start .args .t2) (start .args .f) (start .pre .2) (payload2 .result .now) (payload .result .now)
+    (payload2 .ensures) (payload .ensures) (disordered .result) (disordered .ensures) (if1 .left) (if2 .left) (in-range .result) (in-range .ensures) (not-false (in-range .result) (if3 .left))
+    (malformed .result) (malformed .ensures) (c .if4 .left)
 
 pub fault-spec : {M : Type 1} → statement M
 fault-spec =
@@ -58,11 +111,13 @@ fault-spec =
     payload-requires
     payload-requires-2
     disordered-requires
-    sub-full
-    cast-full
+    sub-k
+    cast-k
     mul-full
     array-read-full
-    so-far-requires
+    mul-full-2
+    element-copy-out-full
+    element-copy-out-earlier
     in-range-requires
     malformed-requires
     returns

@@ -29,7 +29,12 @@ shared-slice-read-if2-2 : tie.Need-shared-slice-read-if2-2 Inv-loop μ-loop
 shared-slice-read-if2-2 c = search needs
 
 returns-2 : tie.Need-returns-2 Inv-loop μ-loop
-returns-2 c = let g = c .before .before .before .before .before .before .args in let i = c .before .before .before .before .loop .i in sym (c .before .before .before .before .loop .inv .2 ∙ same-differs (g .s .now) (g .t .now) i (omega arith) (omega arith) (c .if2 .taken))
+returns-2 c =
+    let start = c .before .before .before .before .before .before in
+    let loop = c .before .before .before .before .loop in
+    let g = start .args in
+    let i = loop .i in
+    sym (loop .inv .2 ∙ same-differs (g .s .now) (g .t .now) i (omega arith) (omega arith) (c .if2 .taken))
 
 add-i : tie.Need-add-i Inv-loop μ-loop
 add-i c = search needs
@@ -38,7 +43,12 @@ loop-less : tie.Need-loop-less Inv-loop μ-loop
 loop-less c = search needs
 
 loop-again : tie.Need-loop-again Inv-loop μ-loop
-loop-again c = let g = c .before .before .before .before .before .before .args in let i = c .before .before .before .before .loop .i in (search needs, search needs, c .before .before .before .before .loop .inv .2 ∙ same-later (g .s .now) (g .t .now) i (omega arith) (omega arith) (c .if2 .left))
+loop-again c =
+    let start = c .before .before .before .before .before .before in
+    let loop = c .before .before .before .before .loop in
+    let g = start .args in
+    let i = loop .i in
+    (search needs, search needs, loop .inv .2 ∙ same-later (g .s .now) (g .t .now) i (omega arith) (omega arith) (c .if2 .left))
 
 returns-3 : tie.Need-returns-3 Inv-loop μ-loop
 returns-3 c = let g = c .before .before .before .args in sym (c .before .loop .inv .2 ∙ same-end (g .s .now) (g .t .now) (c .before .loop .i) (omega arith) (omega arith))

@@ -38,25 +38,76 @@ sub-segment-ok : tie.Need-sub-segment-ok Inv-loop μ-loop
 sub-segment-ok c = omega arith
 
 part-segment-ok-start : tie.Need-part-segment-ok-start Inv-loop μ-loop
-part-segment-ok-start c = let p = c .before .before .before .before .before .before .before .args .p .now in let a = c .before .before .loop .a in let h = c .before .loop-test .taken in omega (arith, end-le p a h)
+part-segment-ok-start c =
+    let start = c .before .before .before .before .before .before .before in
+    let loop = c .before .before .loop in
+    let loop-test = c .before .loop-test in
+    let p = start .args .p .now in
+    let a = loop .a in
+    let h = loop-test .taken in
+    omega (arith, end-le p a h)
 
 part-segment-ok-end : tie.Need-part-segment-ok-end Inv-loop μ-loop
-part-segment-ok-end c = let p = c .before .before .before .before .before .before .before .args .p .now in let a = c .before .before .loop .a in let h = c .before .loop-test .taken in omega (arith, end-le p a h)
+part-segment-ok-end c =
+    let start = c .before .before .before .before .before .before .before in
+    let loop = c .before .before .loop in
+    let loop-test = c .before .loop-test in
+    let p = start .args .p .now in
+    let a = loop .a in
+    let h = loop-test .taken in
+    omega (arith, end-le p a h)
 
 segment-ok-requires : tie.Need-segment-ok-requires Inv-loop μ-loop
 segment-ok-requires c κs = search needs
 
 returns-3 : tie.Need-returns-3 Inv-loop μ-loop
-returns-3 c = let p = c .before .before .before .before .before .before .before .before .before .before .args .p .now in let a = c .before .before .before .before .before .loop .a in let h = c .before .before .before .before .loop-test .taken in sym (c .before .before .before .before .before .loop .inv .1 ∙ rest-after p a h (c .before .before .before .segment-end .result) (c .before .segment-ok .result) (c .before .before .before .segment-end .ensures) (c .before .segment-ok .ensures) ∙ ap (λ (t : Bool). t && restOk p (c .before .before .before .segment-end .result + 1)) (not-true (c .before .segment-ok .result) (c .if3 .taken)))
+returns-3 c =
+    let start = c .before .before .before .before .before .before .before .before .before .before in
+    let loop = c .before .before .before .before .before .loop in
+    let loop-test = c .before .before .before .before .loop-test in
+    let segment-end = c .before .before .before .segment-end in
+    let segment-ok = c .before .segment-ok in
+    let p = start .args .p .now in
+    let a = loop .a in
+    let h = loop-test .taken in
+    sym
+    (loop .inv .1 ∙ rest-after p a h (segment-end .result) (segment-ok .result) (segment-end .ensures) (segment-ok .ensures) ∙ ap (λ (t : Bool). t && restOk p (segment-end .result + 1)) (not-true (segment-ok .result) (c .if3 .taken)))
 
 add-a : tie.Need-add-a Inv-loop μ-loop
-add-a c = let p = c .before .before .before .before .before .before .before .before .before .before .args .p .now in let a = c .before .before .before .before .before .loop .a in let h = c .before .before .before .before .loop-test .taken in omega (arith, end-le p a h)
+add-a c =
+    let start = c .before .before .before .before .before .before .before .before .before .before in
+    let loop = c .before .before .before .before .before .loop in
+    let loop-test = c .before .before .before .before .loop-test in
+    let p = start .args .p .now in
+    let a = loop .a in
+    let h = loop-test .taken in
+    omega (arith, end-le p a h)
 
 loop-less : tie.Need-loop-less Inv-loop μ-loop
-loop-less c = let p = c .before .before .before .before .before .before .before .before .before .before .args .p .now in let a = c .before .before .before .before .before .loop .a in let h = c .before .before .before .before .loop-test .taken in omega (arith, end-le p a h)
+loop-less c =
+    let start = c .before .before .before .before .before .before .before .before .before .before in
+    let loop = c .before .before .before .before .before .loop in
+    let loop-test = c .before .before .before .before .loop-test in
+    let p = start .args .p .now in
+    let a = loop .a in
+    let h = loop-test .taken in
+    omega (arith, end-le p a h)
 
 loop-again : tie.Need-loop-again Inv-loop μ-loop
-loop-again c = let p = c .before .before .before .before .before .before .before .before .before .before .args .p .now in let a = c .before .before .before .before .before .loop .a in let h = c .before .before .before .before .loop-test .taken in (omega (arith, end-le p a h), c .before .before .before .before .before .loop .inv .1 ∙ rest-after p a h (c .before .before .before .segment-end .result) (c .before .segment-ok .result) (c .before .before .before .segment-end .ensures) (c .before .segment-ok .ensures) ∙ ap (λ (t : Bool). t && restOk p (c .before .before .before .segment-end .result + 1)) (not-false (c .before .segment-ok .result) (c .if3 .left)))
+loop-again c =
+    let start = c .before .before .before .before .before .before .before .before .before .before in
+    let loop = c .before .before .before .before .before .loop in
+    let loop-test = c .before .before .before .before .loop-test in
+    let segment-end = c .before .before .before .segment-end in
+    let segment-ok = c .before .segment-ok in
+    let p = start .args .p .now in
+    let a = loop .a in
+    let h = loop-test .taken in (
+      omega (arith, end-le p a h),
+      loop .inv .1
+          ∙ rest-after p a h (segment-end .result) (segment-ok .result) (segment-end .ensures) (segment-ok .ensures)
+          ∙ ap (λ (t : Bool). t && restOk p (segment-end .result + 1)) (not-false (segment-ok .result) (c .if3 .left)),
+    )
 
 returns-4 : tie.Need-returns-4 Inv-loop μ-loop
 returns-4 c = sym (c .before .loop .inv .1 ∙ rest-end _ _ (c .loop-test .left))

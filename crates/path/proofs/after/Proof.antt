@@ -20,7 +20,12 @@ part-result-end : tie.Need-part-result-end
 part-result-end c = search needs
 
 returns : tie.Need-returns
-returns c = let g = c .before .args in let l = c .before .pre in (take-all (length (g .path .now) - g .n) (drop (g .n) (g .path .now)) (simp length-drop (omega arith)), part-is (g .n) (length (g .path .now) - g .n) _ (g .path) refl refl (omega arith) refl)
+returns c =
+    let g = c .before .args in
+    let l = c .before .pre in (
+      take-all (length (g .path .now) - g .n) (drop (g .n) (g .path .now)) (simp length-drop (omega arith)),
+      part-is (g .n) (length (g .path .now) - g .n) _ (g .path) refl refl (omega arith) refl,
+    )
 
 pub after-spec : {M : Type 1} → statement M
 after-spec = tie.close (tie.spec sub-result part-result-start part-result-end returns)

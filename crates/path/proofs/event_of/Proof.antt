@@ -15,10 +15,10 @@ enum-known-n : tie.Need-enum-known-n
 enum-known-n c = search needs
 
 returns : tie.Need-returns
-returns c = event-under (c .before .before .before .before .before .before .args .sheet .now) (c .before .before .before .before .before .before .args .access) (c .before .before .before .before .before .before .args .path .now) (c .before .before .before .judge .result) (c .before .before .before .judge .ensures) (c .before .b .given .0 .0) (c .before .b .given .1)
+returns c = let j = c .before .before .before .judge in event-under (j .result) (j .ensures) (c .before .b .given .0 .0) (c .before .b .given .1)
 
 returns-2 : tie.Need-returns-2
-returns-2 c = event-refused (c .before .before .before .before .before .before .args .sheet .now) (c .before .before .before .before .before .before .args .access) (c .before .before .before .before .before .before .args .path .now) (c .before .before .before .judge .result) (c .before .before .before .judge .ensures) (c .before .n .given .0 .0) (c .before .n .given .1)
+returns-2 c = let j = c .before .before .before .judge in event-refused (j .result) (j .ensures) (c .before .n .given .0 .0) (c .before .n .given .1)
 
 pub event-of-spec : {M : Type 1} → statement M
 event-of-spec = tie.close (tie.spec judge-requires enum-known-b enum-known-n returns returns-2)

@@ -1,15 +1,21 @@
--- `path::find` meets its contract. The outer loop's invariant: the best so far is the longest covering root among those read. The inner loop's:
--- the root and the path agree as far as they were compared.
+-- `path::find` meets its contract. The outer loop's invariant: the search goes on to what it finds from the start. The inner loop's: the root and
+-- the path agree as far as they were compared.
 -- Assumes nothing.
 use Prim.Native.Nat.{ℕ, _+_, _≤_, _<_, _-_}
 use mathlib.Core.Path.{_≡_, sym, _∙_}
+use mathlib.Core.Bool.{true, false}
+use mathlib.Core.List.{List}
 use native.Mathlib.Omega.{arith}
 use lib.ListN.{length, getD}
 use borrow.Author.Count.{below-more}
 use borrow.Author.Needs.{needs}
 use borrow.Author.Tests.{not-true, not-false}
+use Rattle.meaning.specs.Limits.{rootLeast}
+use Rattle.records.specs.declared.Frame.{Frame}
 use Rattle.records.proofs.Framing.{broken-says, broken-told, whole-told}
-use Rattle.path.proofs.Searching.{Searching, begins, ended, broken, f-root, f-next, m-inside, not-worth, is-root, no-longer, differs, no-edge, wins}
+use Rattle.path.specs.declared.Span.{Span}
+use Rattle.path.specs.Search.{worthIt}
+use Rattle.path.proofs.Searching.{Searching, Turn, begins, ended, broken, f-root, f-next, not-worth, fits, differs, no-edge, wins}
 use Rattle.path.proofs.find.Statement.{statement}
 use Rattle.path.proofs.find.Tie as tie
 
@@ -25,8 +31,58 @@ Inv-roots sheet access path best₀ at₀ best at = (at ≤ length sheet) × Sea
 abbrev μ-roots : tie.MeasureT-roots
 μ-roots sheet access path best₀ at₀ best at = length sheet - at
 
+-- WHAT IS KNOWN IN A TURN
+
+-- where the record was read
+abbrev Told : Type 0
+Told = tie.After-known-told Inv-loop μ-loop Inv-roots μ-roots
+
+abbrev sheet : Told → List ℕ
+sheet t = t .before .before .before .before .before .before .before .before .args .sheet .now
+
+abbrev access : Told → ℕ
+access t = t .before .before .before .before .before .before .before .before .args .access
+
+abbrev path : Told → List ℕ
+path t = t .before .before .before .before .before .before .before .before .args .path .now
+
+abbrev best : Told → Span
+best t = t .before .before .before .before .before .roots .best
+
+abbrev at : Told → ℕ
+at t = t .before .before .before .before .before .roots .at
+
+abbrev frame : Told → Frame
+frame t = t .before .f .given .0 .0
+
+turn : (t : Told) → Turn (sheet t) (access t) (path t) (best t) (at t) (frame t)
+turn t =
+    let read = t .before .before .before in
+    record {
+      search = read .before .before .roots .inv .1;
+      more = read .before .roots-test .taken;
+      says = whole-told (read .read-at .result) (frame t) (read .read-at .ensures) (t .before .f .given .1);
+    }
+
+-- where it was found worth a look
+abbrev Worth : Type 0
+Worth = tie.Else1 Inv-loop μ-loop Inv-roots μ-roots
+
+worth : (c : Worth) → let t = c .before .before in worthIt (sheet t) (frame t) (access t) (length (path t)) (best t .len) ≡ true
+worth c = sym (c .before .worth .ensures) ∙ not-false (c .before .worth .result) (c .if1 .left)
+
+-- where it was not
+passed-over : (c : tie.Then1 Inv-loop μ-loop Inv-roots μ-roots) → let t = c .before .before in worthIt (sheet t) (frame t) (access t) (length (path t)) (best t .len) ≡ false
+passed-over c = sym (c .before .worth .ensures) ∙ not-true (c .before .worth .result) (c .if1 .taken)
+
+room : (c : Worth) → let f = frame (c .before .before) in
+    (2 + rootLeast ≤ f .len) × (f .start + f .len ≤ length (sheet (c .before .before))) × (f .len - 2 ≤ length (path (c .before .before)))
+room c = fits (turn (c .before .before)) (worth c)
+
+-- THE NEEDS
+
 roots-holds : tie.Need-roots-holds Inv-loop μ-loop Inv-roots μ-roots
-roots-holds c = (omega arith, begins (c .before .before .args .sheet .now) (c .before .before .args .access) (c .before .before .args .path .now) (c .before .before .pre))
+roots-holds c = let s = c .before .before in (omega arith, begins (s .args .sheet .now) (s .args .access) (s .args .path .now) (s .pre))
 
 read-at-requires : tie.Need-read-at-requires Inv-loop μ-loop Inv-roots μ-roots
 read-at-requires c κs = search needs
@@ -38,40 +94,44 @@ enum-told : tie.Need-enum-told Inv-loop μ-loop Inv-roots μ-roots
 enum-told c = c .match .keys2
 
 worth-requires : tie.Need-worth-requires Inv-loop μ-loop Inv-roots μ-roots
-worth-requires c κs = f-root (c .before .before .before .before .before .before .before .before .args .sheet .now) (c .before .before .before .before .before .before .before .before .args .access) (c .before .before .before .before .before .before .before .before .args .path .now) (c .before .before .before .before .before .roots .best) (c .before .before .before .before .before .roots .at) (c .before .before .before .before .before .roots .inv .1) (c .before .f .given .0 .0) (whole-told (c .before .before .before .read-at .result) _ (c .before .before .before .read-at .ensures) (c .before .f .given .1))
+worth-requires c κs = f-root (turn c)
 
 roots-less : tie.Need-roots-less Inv-loop μ-loop Inv-roots μ-roots
-roots-less c = let k = f-next (c .before .before .before .before .before .before .before .before .before .before .args .sheet .now) (c .before .before .before .before .before .before .before .before .before .before .args .access) (c .before .before .before .before .before .before .before .before .before .before .args .path .now) (c .before .before .before .before .before .before .before .roots .best) (c .before .before .before .before .before .before .before .roots .at) (c .before .before .before .before .before .before .before .roots .inv .1) (c .before .before .before .f .given .0 .0) (whole-told (c .before .before .before .before .before .read-at .result) _ (c .before .before .before .before .before .read-at .ensures) (c .before .before .before .f .given .1)) in omega arith
+roots-less c = let k = f-next (turn (c .before .before)) in omega arith
 
 roots-again : tie.Need-roots-again Inv-loop μ-loop Inv-roots μ-roots
-roots-again c = (f-next (c .before .before .before .before .before .before .before .before .before .before .args .sheet .now) (c .before .before .before .before .before .before .before .before .before .before .args .access) (c .before .before .before .before .before .before .before .before .before .before .args .path .now) (c .before .before .before .before .before .before .before .roots .best) (c .before .before .before .before .before .before .before .roots .at) (c .before .before .before .before .before .before .before .roots .inv .1) (c .before .before .before .f .given .0 .0) (whole-told (c .before .before .before .before .before .read-at .result) _ (c .before .before .before .before .before .read-at .ensures) (c .before .before .before .f .given .1)) .1, not-worth (c .before .before .before .before .before .before .before .before .before .before .args .sheet .now) (c .before .before .before .before .before .before .before .before .before .before .args .access) (c .before .before .before .before .before .before .before .before .before .before .args .path .now) (c .before .before .before .before .before .before .before .roots .best) (c .before .before .before .before .before .before .before .roots .at) (c .before .before .before .before .before .before .before .roots .inv .1) (c .before .before .before .f .given .0 .0) (whole-told (c .before .before .before .before .before .read-at .result) _ (c .before .before .before .before .before .read-at .ensures) (c .before .before .before .f .given .1)) (c .before .before .before .before .before .before .roots-test .taken) (sym (c .before .worth .ensures) ∙ not-true (c .before .worth .result) (c .if1 .taken)))
+roots-again c = let t = turn (c .before .before) in (f-next t .1, not-worth t (passed-over c))
 
 add-e : tie.Need-add-e Inv-loop μ-loop Inv-roots μ-roots
-add-e c = let e = is-root (c .before .before .before .before .before .before .before .before .before .before .before .args .sheet .now) (c .before .before .before .before .before .before .before .before .before .before .before .args .access) (c .before .before .before .before .before .before .before .before .before .before .before .args .path .now) (c .before .before .before .before .before .before .before .before .roots .best) (c .before .before .before .before .before .before .before .before .roots .at) (c .before .before .before .before .before .before .before .before .roots .inv .1) (c .before .before .before .before .f .given .0 .0) (whole-told (c .before .before .before .before .before .before .read-at .result) _ (c .before .before .before .before .before .before .read-at .ensures) (c .before .before .before .before .f .given .1)) (c .before .before .before .before .before .before .before .roots-test .taken) (sym (c .before .before .worth .ensures) ∙ not-false (c .before .before .worth .result) (c .before .if1 .left)) in let k = m-inside (c .before .before .before .before .before .before .before .before .before .before .before .args .sheet .now) (c .before .before .before .before .before .before .before .before .before .before .before .args .access) (c .before .before .before .before .before .before .before .before .before .before .before .args .path .now) (c .before .before .before .before .before .before .before .before .roots .best) (c .before .before .before .before .before .before .before .before .roots .at) (c .before .before .before .before .before .before .before .before .roots .inv .1) (c .before .before .before .before .f .given .0 .0) (whole-told (c .before .before .before .before .before .before .read-at .result) _ (c .before .before .before .before .before .before .read-at .ensures) (c .before .before .before .before .f .given .1)) e in let r = f-root (c .before .before .before .before .before .before .before .before .before .before .before .args .sheet .now) (c .before .before .before .before .before .before .before .before .before .before .before .args .access) (c .before .before .before .before .before .before .before .before .before .before .before .args .path .now) (c .before .before .before .before .before .before .before .before .roots .best) (c .before .before .before .before .before .before .before .before .roots .at) (c .before .before .before .before .before .before .before .before .roots .inv .1) (c .before .before .before .before .f .given .0 .0) (whole-told (c .before .before .before .before .before .before .read-at .result) _ (c .before .before .before .before .before .before .read-at .ensures) (c .before .before .before .before .f .given .1)) in let four = r .1 e in omega arith
+add-e c = let k = room (c .before) in omega arith
 
 add-a : tie.Need-add-a Inv-loop μ-loop Inv-roots μ-roots
-add-a c = let e = is-root (c .before .before .before .before .before .before .before .before .before .before .before .args .sheet .now) (c .before .before .before .before .before .before .before .before .before .before .before .args .access) (c .before .before .before .before .before .before .before .before .before .before .before .args .path .now) (c .before .before .before .before .before .before .before .before .roots .best) (c .before .before .before .before .before .before .before .before .roots .at) (c .before .before .before .before .before .before .before .before .roots .inv .1) (c .before .before .before .before .f .given .0 .0) (whole-told (c .before .before .before .before .before .before .read-at .result) _ (c .before .before .before .before .before .before .read-at .ensures) (c .before .before .before .before .f .given .1)) (c .before .before .before .before .before .before .before .roots-test .taken) (sym (c .before .before .worth .ensures) ∙ not-false (c .before .before .worth .result) (c .before .if1 .left)) in let k = m-inside (c .before .before .before .before .before .before .before .before .before .before .before .args .sheet .now) (c .before .before .before .before .before .before .before .before .before .before .before .args .access) (c .before .before .before .before .before .before .before .before .before .before .before .args .path .now) (c .before .before .before .before .before .before .before .before .roots .best) (c .before .before .before .before .before .before .before .before .roots .at) (c .before .before .before .before .before .before .before .before .roots .inv .1) (c .before .before .before .before .f .given .0 .0) (whole-told (c .before .before .before .before .before .before .read-at .result) _ (c .before .before .before .before .before .before .read-at .ensures) (c .before .before .before .before .f .given .1)) e in let r = f-root (c .before .before .before .before .before .before .before .before .before .before .before .args .sheet .now) (c .before .before .before .before .before .before .before .before .before .before .before .args .access) (c .before .before .before .before .before .before .before .before .before .before .before .args .path .now) (c .before .before .before .before .before .before .before .before .roots .best) (c .before .before .before .before .before .before .before .before .roots .at) (c .before .before .before .before .before .before .before .before .roots .inv .1) (c .before .before .before .before .f .given .0 .0) (whole-told (c .before .before .before .before .before .before .read-at .result) _ (c .before .before .before .before .before .before .read-at .ensures) (c .before .before .before .before .f .given .1)) in let four = r .1 e in omega arith
+add-a c = let k = room (c .before) in omega arith
 
 sub-m : tie.Need-sub-m Inv-loop μ-loop Inv-roots μ-roots
-sub-m c = let e = is-root (c .before .before .before .before .before .before .before .before .before .before .before .before .args .sheet .now) (c .before .before .before .before .before .before .before .before .before .before .before .before .args .access) (c .before .before .before .before .before .before .before .before .before .before .before .before .args .path .now) (c .before .before .before .before .before .before .before .before .before .roots .best) (c .before .before .before .before .before .before .before .before .before .roots .at) (c .before .before .before .before .before .before .before .before .before .roots .inv .1) (c .before .before .before .before .before .f .given .0 .0) (whole-told (c .before .before .before .before .before .before .before .read-at .result) _ (c .before .before .before .before .before .before .before .read-at .ensures) (c .before .before .before .before .before .f .given .1)) (c .before .before .before .before .before .before .before .before .roots-test .taken) (sym (c .before .before .before .worth .ensures) ∙ not-false (c .before .before .before .worth .result) (c .before .before .if1 .left)) in let four = f-root (c .before .before .before .before .before .before .before .before .before .before .before .before .args .sheet .now) (c .before .before .before .before .before .before .before .before .before .before .before .before .args .access) (c .before .before .before .before .before .before .before .before .before .before .before .before .args .path .now) (c .before .before .before .before .before .before .before .before .before .roots .best) (c .before .before .before .before .before .before .before .before .before .roots .at) (c .before .before .before .before .before .before .before .before .before .roots .inv .1) (c .before .before .before .before .before .f .given .0 .0) (whole-told (c .before .before .before .before .before .before .before .read-at .result) _ (c .before .before .before .before .before .before .before .read-at .ensures) (c .before .before .before .before .before .f .given .1)) .1 e in omega arith
+sub-m c = let k = room (c .before .before) in omega arith
 
 loop-holds : tie.Need-loop-holds Inv-loop μ-loop Inv-roots μ-roots
 loop-holds c = (omega arith, λ j l. absurd (omega arith))
 
 add-if2 : tie.Need-add-if2 Inv-loop μ-loop Inv-roots μ-roots
-add-if2 c = let k = m-inside (c .before .before .before .before .before .before .before .before .before .before .before .before .before .before .args .sheet .now) (c .before .before .before .before .before .before .before .before .before .before .before .before .before .before .args .access) (c .before .before .before .before .before .before .before .before .before .before .before .before .before .before .args .path .now) (c .before .before .before .before .before .before .before .before .before .before .before .roots .best) (c .before .before .before .before .before .before .before .before .before .before .before .roots .at) (c .before .before .before .before .before .before .before .before .before .before .before .roots .inv .1) (c .before .before .before .before .before .before .before .f .given .0 .0) (whole-told (c .before .before .before .before .before .before .before .before .before .read-at .result) _ (c .before .before .before .before .before .before .before .before .before .read-at .ensures) (c .before .before .before .before .before .before .before .f .given .1)) (is-root (c .before .before .before .before .before .before .before .before .before .before .before .before .before .before .args .sheet .now) (c .before .before .before .before .before .before .before .before .before .before .before .before .before .before .args .access) (c .before .before .before .before .before .before .before .before .before .before .before .before .before .before .args .path .now) (c .before .before .before .before .before .before .before .before .before .before .before .roots .best) (c .before .before .before .before .before .before .before .before .before .before .before .roots .at) (c .before .before .before .before .before .before .before .before .before .before .before .roots .inv .1) (c .before .before .before .before .before .before .before .f .given .0 .0) (whole-told (c .before .before .before .before .before .before .before .before .before .read-at .result) _ (c .before .before .before .before .before .before .before .before .before .read-at .ensures) (c .before .before .before .before .before .before .before .f .given .1)) (c .before .before .before .before .before .before .before .before .before .before .roots-test .taken) (sym (c .before .before .before .before .before .worth .ensures) ∙ not-false (c .before .before .before .before .before .worth .result) (c .before .before .before .before .if1 .left))) in omega arith
+add-if2 c = let k = room (c .before .before .before .before) in omega arith
 
 shared-slice-read-if2 : tie.Need-shared-slice-read-if2 Inv-loop μ-loop Inv-roots μ-roots
-shared-slice-read-if2 c = let k = m-inside (c .before .before .before .before .before .before .before .before .before .before .before .before .before .before .before .args .sheet .now) (c .before .before .before .before .before .before .before .before .before .before .before .before .before .before .before .args .access) (c .before .before .before .before .before .before .before .before .before .before .before .before .before .before .before .args .path .now) (c .before .before .before .before .before .before .before .before .before .before .before .before .roots .best) (c .before .before .before .before .before .before .before .before .before .before .before .before .roots .at) (c .before .before .before .before .before .before .before .before .before .before .before .before .roots .inv .1) (c .before .before .before .before .before .before .before .before .f .given .0 .0) (whole-told (c .before .before .before .before .before .before .before .before .before .before .read-at .result) _ (c .before .before .before .before .before .before .before .before .before .before .read-at .ensures) (c .before .before .before .before .before .before .before .before .f .given .1)) (is-root (c .before .before .before .before .before .before .before .before .before .before .before .before .before .before .before .args .sheet .now) (c .before .before .before .before .before .before .before .before .before .before .before .before .before .before .before .args .access) (c .before .before .before .before .before .before .before .before .before .before .before .before .before .before .before .args .path .now) (c .before .before .before .before .before .before .before .before .before .before .before .before .roots .best) (c .before .before .before .before .before .before .before .before .before .before .before .before .roots .at) (c .before .before .before .before .before .before .before .before .before .before .before .before .roots .inv .1) (c .before .before .before .before .before .before .before .before .f .given .0 .0) (whole-told (c .before .before .before .before .before .before .before .before .before .before .read-at .result) _ (c .before .before .before .before .before .before .before .before .before .before .read-at .ensures) (c .before .before .before .before .before .before .before .before .f .given .1)) (c .before .before .before .before .before .before .before .before .before .before .before .roots-test .taken) (sym (c .before .before .before .before .before .before .worth .ensures) ∙ not-false (c .before .before .before .before .before .before .worth .result) (c .before .before .before .before .before .if1 .left))) in omega arith
+shared-slice-read-if2 c = let k = room (c .before .before .before .before .before) in omega arith
 
 shared-slice-read-if2-2 : tie.Need-shared-slice-read-if2-2 Inv-loop μ-loop Inv-roots μ-roots
-shared-slice-read-if2-2 c = let k = no-longer (c .before .before .before .before .before .before .before .before .before .before .before .before .before .before .before .before .args .sheet .now) (c .before .before .before .before .before .before .before .before .before .before .before .before .before .before .before .before .args .access) (c .before .before .before .before .before .before .before .before .before .before .before .before .before .before .before .before .args .path .now) (c .before .before .before .before .before .before .before .before .before .before .before .before .before .roots .best) (c .before .before .before .before .before .before .before .before .before .before .before .before .before .roots .at) (c .before .before .before .before .before .before .before .before .before .before .before .before .before .roots .inv .1) (c .before .before .before .before .before .before .before .before .before .f .given .0 .0) (whole-told (c .before .before .before .before .before .before .before .before .before .before .before .read-at .result) _ (c .before .before .before .before .before .before .before .before .before .before .before .read-at .ensures) (c .before .before .before .before .before .before .before .before .before .f .given .1)) (c .before .before .before .before .before .before .before .before .before .before .before .before .roots-test .taken) (sym (c .before .before .before .before .before .before .before .worth .ensures) ∙ not-false (c .before .before .before .before .before .before .before .worth .result) (c .before .before .before .before .before .before .if1 .left)) in omega arith
+shared-slice-read-if2-2 c = let k = room (c .before .before .before .before .before .before) in omega arith
 
 roots-less-2 : tie.Need-roots-less-2 Inv-loop μ-loop Inv-roots μ-roots
-roots-less-2 c = let k = f-next (c .before .before .before .before .before .before .before .before .before .before .before .before .before .before .before .before .before .args .sheet .now) (c .before .before .before .before .before .before .before .before .before .before .before .before .before .before .before .before .before .args .access) (c .before .before .before .before .before .before .before .before .before .before .before .before .before .before .before .before .before .args .path .now) (c .before .before .before .before .before .before .before .before .before .before .before .before .before .before .roots .best) (c .before .before .before .before .before .before .before .before .before .before .before .before .before .before .roots .at) (c .before .before .before .before .before .before .before .before .before .before .before .before .before .before .roots .inv .1) (c .before .before .before .before .before .before .before .before .before .before .f .given .0 .0) (whole-told (c .before .before .before .before .before .before .before .before .before .before .before .before .read-at .result) _ (c .before .before .before .before .before .before .before .before .before .before .before .before .read-at .ensures) (c .before .before .before .before .before .before .before .before .before .before .f .given .1)) in omega arith
+roots-less-2 c = let k = f-next (turn (c .before .before .before .before .before .before .before .before .before)) in omega arith
 
 roots-again-2 : tie.Need-roots-again-2 Inv-loop μ-loop Inv-roots μ-roots
-roots-again-2 c = (f-next (c .before .before .before .before .before .before .before .before .before .before .before .before .before .before .before .before .before .args .sheet .now) (c .before .before .before .before .before .before .before .before .before .before .before .before .before .before .before .before .before .args .access) (c .before .before .before .before .before .before .before .before .before .before .before .before .before .before .before .before .before .args .path .now) (c .before .before .before .before .before .before .before .before .before .before .before .before .before .before .roots .best) (c .before .before .before .before .before .before .before .before .before .before .before .before .before .before .roots .at) (c .before .before .before .before .before .before .before .before .before .before .before .before .before .before .roots .inv .1) (c .before .before .before .before .before .before .before .before .before .before .f .given .0 .0) (whole-told (c .before .before .before .before .before .before .before .before .before .before .before .before .read-at .result) _ (c .before .before .before .before .before .before .before .before .before .before .before .before .read-at .ensures) (c .before .before .before .before .before .before .before .before .before .before .f .given .1)) .1, differs (c .before .before .before .before .before .before .before .before .before .before .before .before .before .before .before .before .before .args .sheet .now) (c .before .before .before .before .before .before .before .before .before .before .before .before .before .before .before .before .before .args .access) (c .before .before .before .before .before .before .before .before .before .before .before .before .before .before .before .before .before .args .path .now) (c .before .before .before .before .before .before .before .before .before .before .before .before .before .before .roots .best) (c .before .before .before .before .before .before .before .before .before .before .before .before .before .before .roots .at) (c .before .before .before .before .before .before .before .before .before .before .before .before .before .before .roots .inv .1) (c .before .before .before .before .before .before .before .before .before .before .f .given .0 .0) (whole-told (c .before .before .before .before .before .before .before .before .before .before .before .before .read-at .result) _ (c .before .before .before .before .before .before .before .before .before .before .before .before .read-at .ensures) (c .before .before .before .before .before .before .before .before .before .before .f .given .1)) (c .before .before .before .before .before .before .before .before .before .before .before .before .before .roots-test .taken) (sym (c .before .before .before .before .before .before .before .before .worth .ensures) ∙ not-false (c .before .before .before .before .before .before .before .before .worth .result) (c .before .before .before .before .before .before .before .if1 .left)) (c .before .before .before .before .loop .k) (c .before .before .before .loop-test .taken) (c .if2 .taken))
+roots-again-2 c =
+    let compared = c .before .before .before in
+    let w = compared .before .before .before .before in
+    let t = turn (w .before .before) in
+    (f-next t .1, differs t (worth w) (compared .before .loop .k) (compared .loop-test .taken) (c .if2 .taken))
 
 add-k : tie.Need-add-k Inv-loop μ-loop Inv-roots μ-roots
 add-k c = omega arith
@@ -83,28 +143,48 @@ loop-again : tie.Need-loop-again Inv-loop μ-loop Inv-roots μ-roots
 loop-again c = (omega arith, below-more _ _ (c .before .before .before .before .loop .inv .1) (c .if2 .left))
 
 edge-at-requires : tie.Need-edge-at-requires Inv-loop μ-loop Inv-roots μ-roots
-edge-at-requires c κs = let k = no-longer (c .before .before .before .before .before .before .before .before .before .before .before .before .before .before .args .sheet .now) (c .before .before .before .before .before .before .before .before .before .before .before .before .before .before .args .access) (c .before .before .before .before .before .before .before .before .before .before .before .before .before .before .args .path .now) (c .before .before .before .before .before .before .before .before .before .before .before .roots .best) (c .before .before .before .before .before .before .before .before .before .before .before .roots .at) (c .before .before .before .before .before .before .before .before .before .before .before .roots .inv .1) (c .before .before .before .before .before .before .before .f .given .0 .0) (whole-told (c .before .before .before .before .before .before .before .before .before .read-at .result) _ (c .before .before .before .before .before .before .before .before .before .read-at .ensures) (c .before .before .before .before .before .before .before .f .given .1)) (c .before .before .before .before .before .before .before .before .before .before .roots-test .taken) (sym (c .before .before .before .before .before .worth .ensures) ∙ not-false (c .before .before .before .before .before .worth .result) (c .before .before .before .before .if1 .left)) in omega arith
+edge-at-requires c κs = let k = room (c .before .before .before .before) in omega arith
 
 shared-slice-read-t24 : tie.Need-shared-slice-read-t24 Inv-loop μ-loop Inv-roots μ-roots
-shared-slice-read-t24 c = let k = m-inside (c .before .before .before .before .before .before .before .before .before .before .before .before .before .before .before .before .before .args .sheet .now) (c .before .before .before .before .before .before .before .before .before .before .before .before .before .before .before .before .before .args .access) (c .before .before .before .before .before .before .before .before .before .before .before .before .before .before .before .before .before .args .path .now) (c .before .before .before .before .before .before .before .before .before .before .before .before .before .before .roots .best) (c .before .before .before .before .before .before .before .before .before .before .before .before .before .before .roots .at) (c .before .before .before .before .before .before .before .before .before .before .before .before .before .before .roots .inv .1) (c .before .before .before .before .before .before .before .before .before .before .f .given .0 .0) (whole-told (c .before .before .before .before .before .before .before .before .before .before .before .before .read-at .result) _ (c .before .before .before .before .before .before .before .before .before .before .before .before .read-at .ensures) (c .before .before .before .before .before .before .before .before .before .before .f .given .1)) (is-root (c .before .before .before .before .before .before .before .before .before .before .before .before .before .before .before .before .before .args .sheet .now) (c .before .before .before .before .before .before .before .before .before .before .before .before .before .before .before .before .before .args .access) (c .before .before .before .before .before .before .before .before .before .before .before .before .before .before .before .before .before .args .path .now) (c .before .before .before .before .before .before .before .before .before .before .before .before .before .before .roots .best) (c .before .before .before .before .before .before .before .before .before .before .before .before .before .before .roots .at) (c .before .before .before .before .before .before .before .before .before .before .before .before .before .before .roots .inv .1) (c .before .before .before .before .before .before .before .before .before .before .f .given .0 .0) (whole-told (c .before .before .before .before .before .before .before .before .before .before .before .before .read-at .result) _ (c .before .before .before .before .before .before .before .before .before .before .before .before .read-at .ensures) (c .before .before .before .before .before .before .before .before .before .before .f .given .1)) (c .before .before .before .before .before .before .before .before .before .before .before .before .before .roots-test .taken) (sym (c .before .before .before .before .before .before .before .before .worth .ensures) ∙ not-false (c .before .before .before .before .before .before .before .before .worth .result) (c .before .before .before .before .before .before .before .if1 .left))) in let r = f-root (c .before .before .before .before .before .before .before .before .before .before .before .before .before .before .before .before .before .args .sheet .now) (c .before .before .before .before .before .before .before .before .before .before .before .before .before .before .before .before .before .args .access) (c .before .before .before .before .before .before .before .before .before .before .before .before .before .before .before .before .before .args .path .now) (c .before .before .before .before .before .before .before .before .before .before .before .before .before .before .roots .best) (c .before .before .before .before .before .before .before .before .before .before .before .before .before .before .roots .at) (c .before .before .before .before .before .before .before .before .before .before .before .before .before .before .roots .inv .1) (c .before .before .before .before .before .before .before .before .before .before .f .given .0 .0) (whole-told (c .before .before .before .before .before .before .before .before .before .before .before .before .read-at .result) _ (c .before .before .before .before .before .before .before .before .before .before .before .before .read-at .ensures) (c .before .before .before .before .before .before .before .before .before .before .f .given .1)) in omega arith
+shared-slice-read-t24 c = let k = room (c .before .before .before .before .before .before .before) in omega arith
 
 roots-less-3 : tie.Need-roots-less-3 Inv-loop μ-loop Inv-roots μ-roots
-roots-less-3 c = let k = f-next (c .before .before .before .before .before .before .before .before .before .before .before .before .before .before .before .before .before .args .sheet .now) (c .before .before .before .before .before .before .before .before .before .before .before .before .before .before .before .before .before .args .access) (c .before .before .before .before .before .before .before .before .before .before .before .before .before .before .before .before .before .args .path .now) (c .before .before .before .before .before .before .before .before .before .before .before .before .before .before .roots .best) (c .before .before .before .before .before .before .before .before .before .before .before .before .before .before .roots .at) (c .before .before .before .before .before .before .before .before .before .before .before .before .before .before .roots .inv .1) (c .before .before .before .before .before .before .before .before .before .before .f .given .0 .0) (whole-told (c .before .before .before .before .before .before .before .before .before .before .before .before .read-at .result) _ (c .before .before .before .before .before .before .before .before .before .before .before .before .read-at .ensures) (c .before .before .before .before .before .before .before .before .before .before .f .given .1)) in omega arith
+roots-less-3 c = let k = f-next (turn (c .before .before .before .before .before .before .before .before .before)) in omega arith
 
 roots-again-3 : tie.Need-roots-again-3 Inv-loop μ-loop Inv-roots μ-roots
-roots-again-3 c = (f-next (c .before .before .before .before .before .before .before .before .before .before .before .before .before .before .before .before .before .args .sheet .now) (c .before .before .before .before .before .before .before .before .before .before .before .before .before .before .before .before .before .args .access) (c .before .before .before .before .before .before .before .before .before .before .before .before .before .before .before .before .before .args .path .now) (c .before .before .before .before .before .before .before .before .before .before .before .before .before .before .roots .best) (c .before .before .before .before .before .before .before .before .before .before .before .before .before .before .roots .at) (c .before .before .before .before .before .before .before .before .before .before .before .before .before .before .roots .inv .1) (c .before .before .before .before .before .before .before .before .before .before .f .given .0 .0) (whole-told (c .before .before .before .before .before .before .before .before .before .before .before .before .read-at .result) _ (c .before .before .before .before .before .before .before .before .before .before .before .before .read-at .ensures) (c .before .before .before .before .before .before .before .before .before .before .f .given .1)) .1, wins (c .before .before .before .before .before .before .before .before .before .before .before .before .before .before .before .before .before .args .sheet .now) (c .before .before .before .before .before .before .before .before .before .before .before .before .before .before .before .before .before .args .access) (c .before .before .before .before .before .before .before .before .before .before .before .before .before .before .before .before .before .args .path .now) (c .before .before .before .before .before .before .before .before .before .before .before .before .before .before .roots .best) (c .before .before .before .before .before .before .before .before .before .before .before .before .before .before .roots .at) (c .before .before .before .before .before .before .before .before .before .before .before .before .before .before .roots .inv .1) (c .before .before .before .before .before .before .before .before .before .before .f .given .0 .0) (whole-told (c .before .before .before .before .before .before .before .before .before .before .before .before .read-at .result) _ (c .before .before .before .before .before .before .before .before .before .before .before .before .read-at .ensures) (c .before .before .before .before .before .before .before .before .before .before .f .given .1)) (c .before .before .before .before .before .before .before .before .before .before .before .before .before .roots-test .taken) (sym (c .before .before .before .before .before .before .before .before .worth .ensures) ∙ not-false (c .before .before .before .before .before .before .before .before .worth .result) (c .before .before .before .before .before .before .before .if1 .left)) (λ j l. c .before .before .before .before .loop .inv .1 j (let h = c .before .before .before .loop-test .left in omega arith)) (sym (c .before .before .edge-at .ensures) ∙ c .before .if3 .taken))
+roots-again-3 c =
+    let edge = c .before .before in
+    let compared = edge .before in
+    let w = compared .before .before .before .before in
+    let t = turn (w .before .before) in (
+      f-next t .1,
+      wins t (worth w) (λ j l. compared .before .loop .inv .1 j (let h = compared .loop-test .left in omega arith))
+          (sym (edge .edge-at .ensures) ∙ c .before .if3 .taken),
+    )
 
 roots-less-4 : tie.Need-roots-less-4 Inv-loop μ-loop Inv-roots μ-roots
-roots-less-4 c = let k = f-next (c .before .before .before .before .before .before .before .before .before .before .before .before .before .before .before .before .args .sheet .now) (c .before .before .before .before .before .before .before .before .before .before .before .before .before .before .before .before .args .access) (c .before .before .before .before .before .before .before .before .before .before .before .before .before .before .before .before .args .path .now) (c .before .before .before .before .before .before .before .before .before .before .before .before .before .roots .best) (c .before .before .before .before .before .before .before .before .before .before .before .before .before .roots .at) (c .before .before .before .before .before .before .before .before .before .before .before .before .before .roots .inv .1) (c .before .before .before .before .before .before .before .before .before .f .given .0 .0) (whole-told (c .before .before .before .before .before .before .before .before .before .before .before .read-at .result) _ (c .before .before .before .before .before .before .before .before .before .before .before .read-at .ensures) (c .before .before .before .before .before .before .before .before .before .f .given .1)) in omega arith
+roots-less-4 c = let k = f-next (turn (c .before .before .before .before .before .before .before .before)) in omega arith
 
 roots-again-4 : tie.Need-roots-again-4 Inv-loop μ-loop Inv-roots μ-roots
-roots-again-4 c = (f-next (c .before .before .before .before .before .before .before .before .before .before .before .before .before .before .before .before .args .sheet .now) (c .before .before .before .before .before .before .before .before .before .before .before .before .before .before .before .before .args .access) (c .before .before .before .before .before .before .before .before .before .before .before .before .before .before .before .before .args .path .now) (c .before .before .before .before .before .before .before .before .before .before .before .before .before .roots .best) (c .before .before .before .before .before .before .before .before .before .before .before .before .before .roots .at) (c .before .before .before .before .before .before .before .before .before .before .before .before .before .roots .inv .1) (c .before .before .before .before .before .before .before .before .before .f .given .0 .0) (whole-told (c .before .before .before .before .before .before .before .before .before .before .before .read-at .result) _ (c .before .before .before .before .before .before .before .before .before .before .before .read-at .ensures) (c .before .before .before .before .before .before .before .before .before .f .given .1)) .1, no-edge (c .before .before .before .before .before .before .before .before .before .before .before .before .before .before .before .before .args .sheet .now) (c .before .before .before .before .before .before .before .before .before .before .before .before .before .before .before .before .args .access) (c .before .before .before .before .before .before .before .before .before .before .before .before .before .before .before .before .args .path .now) (c .before .before .before .before .before .before .before .before .before .before .before .before .before .roots .best) (c .before .before .before .before .before .before .before .before .before .before .before .before .before .roots .at) (c .before .before .before .before .before .before .before .before .before .before .before .before .before .roots .inv .1) (c .before .before .before .before .before .before .before .before .before .f .given .0 .0) (whole-told (c .before .before .before .before .before .before .before .before .before .before .before .read-at .result) _ (c .before .before .before .before .before .before .before .before .before .before .before .read-at .ensures) (c .before .before .before .before .before .before .before .before .before .f .given .1)) (c .before .before .before .before .before .before .before .before .before .before .before .before .roots-test .taken) (sym (c .before .before .before .before .before .before .before .worth .ensures) ∙ not-false (c .before .before .before .before .before .before .before .worth .result) (c .before .before .before .before .before .before .if1 .left)) (λ j l. c .before .before .before .loop .inv .1 j (let h = c .before .before .loop-test .left in omega arith)) (sym (c .before .edge-at .ensures) ∙ c .if3 .left))
+roots-again-4 c =
+    let edge = c .before in
+    let compared = edge .before in
+    let w = compared .before .before .before .before in
+    let t = turn (w .before .before) in (
+      f-next t .1,
+      no-edge t (worth w) (λ j l. compared .before .loop .inv .1 j (let h = compared .loop-test .left in omega arith))
+          (sym (edge .edge-at .ensures) ∙ c .if3 .left),
+    )
 
 returns : tie.Need-returns Inv-loop μ-loop Inv-roots μ-roots
-returns c = ended (c .before .before .before .before .args .sheet .now) (c .before .before .before .before .args .access) (c .before .before .before .before .args .path .now) (c .before .roots .best) (c .before .roots .at) (c .before .roots .inv .1) (c .roots-test .left)
+returns c = ended (c .before .roots .inv .1) (c .roots-test .left)
 
 returns-2 : tie.Need-returns-2 Inv-loop μ-loop Inv-roots μ-roots
-returns-2 c = absurd (broken (c .before .before .before .before .before .before .before .args .sheet .now) (c .before .before .before .before .before .before .before .args .access) (c .before .before .before .before .before .before .before .args .path .now) (c .before .before .before .before .roots .best) (c .before .before .before .before .roots .at) (c .before .before .before .before .roots .inv .1) (c .before .before .before .roots-test .taken) (broken-says (c .before .before .before .before .before .before .before .args .sheet .now) (c .before .before .before .before .roots .at) (broken-told (c .before .before .read-at .result) (c .before .before .read-at .ensures) (c .enum-told .given .1))))
+returns-2 c =
+    let read = c .before .before in
+    let turns = read .before .before in
+    let told = broken-told (read .read-at .result) (read .read-at .ensures) (c .enum-told .given .1) in
+    absurd (broken (turns .roots .inv .1) (read .before .roots-test .taken) (broken-says (turns .before .before .before .args .sheet .now) (turns .roots .at) told))
 
 pub find-spec : {M : Type 1} → statement M
 find-spec =

@@ -26,13 +26,22 @@ part-result-end : tie.Need-part-result-end
 part-result-end c = search needs
 
 returns : tie.Need-returns
-returns c = (rest-refused (c .before .before .before .before .before .before .args .sheet .now) (c .before .before .before .before .before .before .args .access) (c .before .before .before .before .before .before .args .path .now) (c .before .before .before .judge .result) (c .before .before .before .judge .ensures) _ (c .before .enum-told .given .1), rw (sym (root-refused (c .before .before .before .before .before .before .args .sheet .now) (c .before .before .before .before .before .before .args .access) (c .before .before .before .before .before .before .args .path .now) (c .before .before .before .judge .result) (c .before .before .before .judge .ensures) _ (c .before .enum-told .given .1))) (part-is 0 0 _ (c .before .before .before .before .before .before .args .path) refl refl (omega arith) refl))
+returns c =
+    let j = c .before .before .before .judge in
+    let told = c .before .enum-told .given .1 in
+    let path = c .before .before .before .before .before .before .args .path in
+    (rest-refused (j .result) (j .ensures) _ told, rw (sym (root-refused (j .result) (j .ensures) _ told)) (part-is 0 0 _ path refl refl (omega arith) refl))
 
 after-requires : tie.Need-after-requires
-after-requires c κs = let w = c .before .before .before .judge .ensures .spans (c .before .b .given .0 .0) (c .before .b .given .1) in w .1
+after-requires c κs = c .before .before .before .judge .ensures .spans (c .before .b .given .0 .0) (c .before .b .given .1) .1
 
 returns-2 : tie.Need-returns-2
-returns-2 c = (c .after .ensures .0 ∙ rest-under (c .before .before .before .before .before .before .before .args .sheet .now) (c .before .before .before .before .before .before .before .args .access) (c .before .before .before .before .before .before .before .args .path .now) (c .before .before .before .before .judge .result) (c .before .before .before .before .judge .ensures) (c .before .before .b .given .0 .0) (c .before .before .b .given .1), rw (sym (root-length (c .before .before .before .before .before .before .before .args .sheet .now) (c .before .before .before .before .before .before .before .args .access) (c .before .before .before .before .before .before .before .args .path .now) (c .before .before .before .before .judge .result) (c .before .before .before .before .judge .ensures) (c .before .before .b .given .0 .0) (c .before .before .b .given .1))) (c .after .ensures .1))
+returns-2 c =
+    let j = c .before .before .before .before .judge in
+    let b = c .before .before .b .given in (
+      c .after .ensures .0 ∙ rest-under (j .result) (j .ensures) (b .0 .0) (b .1),
+      rw (sym (root-length (j .result) (j .ensures) (b .0 .0) (b .1))) (c .after .ensures .1),
+    )
 
 pub rest-of-spec : {M : Type 1} → statement M
 rest-of-spec =

@@ -1,9 +1,9 @@
 -- `path::root_of` meets its contract.
 -- Assumes nothing.
 use Prim.Native.Nat.{_+_, _-_}
-use mathlib.Core.Path.{refl}
+use mathlib.Core.Path.{refl, sym}
 use native.Mathlib.Omega.{arith}
-use Rattle.path.proofs.Asking.{root-under, root-refused, part-is}
+use Rattle.path.proofs.Asking.{root-under, root-refused, place-under, place-refused, part-is}
 use borrow.Author.Needs.{needs}
 use Rattle.path.proofs.root_of.Statement.{statement}
 use Rattle.path.proofs.root_of.Tie as tie
@@ -27,8 +27,13 @@ part-result-end : tie.Need-part-result-end
 part-result-end c = search needs
 
 returns : tie.Need-returns
-returns c = (root-refused (c .before .before .before .before .before .before .args .sheet .now) (c .before .before .before .before .before .before .args .access) (c .before .before .before .before .before .before .args .path .now) (c .before .before .before .judge .result) (c .before .before .before .judge .ensures) _ (c .before .enum-told .given .1), record { begins = 0; part-at = part-is 0 0 _ (c .before .before .before .before .before .before .args .sheet) refl refl (omega arith) refl })
+returns c =
+    let j = c .before .before .before .judge in
+    let told = c .before .enum-told .given .1 in
+    let sheet = c .before .before .before .before .before .before .args .sheet in
+    (root-refused (j .result) (j .ensures) _ told, rw (sym (place-refused (j .result) (j .ensures) _ told)) (part-is 0 0 _ sheet refl refl (omega arith) refl))
 
+-- the span that was found is inside the sheet
 add-end : tie.Need-add-end
 add-end c = let w = c .before .before .before .before .judge .ensures .spans (c .before .before .b .given .0 .0) (c .before .before .b .given .1) in omega arith
 
@@ -42,7 +47,16 @@ part-result-end-2 : tie.Need-part-result-end-2
 part-result-end-2 c = let w = c .before .before .before .before .judge .ensures .spans (c .before .before .b .given .0 .0) (c .before .before .b .given .1) in omega arith
 
 returns-2 : tie.Need-returns-2
-returns-2 c = let w = c .before .before .before .before .before .judge .ensures .spans (c .before .before .before .b .given .0 .0) (c .before .before .before .b .given .1) in (root-under (c .before .before .before .before .before .before .before .before .args .sheet .now) (c .before .before .before .before .before .before .before .before .args .access) (c .before .before .before .before .before .before .before .before .args .path .now) (c .before .before .before .before .before .judge .result) (c .before .before .before .before .before .judge .ensures) (c .before .before .before .b .given .0 .0) (c .before .before .before .b .given .1), record { begins = (c .before .before .before .b .given .0 .0) .at; part-at = part-is ((c .before .before .before .b .given .0 .0) .at) ((c .before .before .before .b .given .0 .0) .at + (c .before .before .before .b .given .0 .0) .len - (c .before .before .before .b .given .0 .0) .at) _ (c .before .before .before .before .before .before .before .before .args .sheet) refl refl (omega arith) refl })
+returns-2 c =
+    let j = c .before .before .before .before .before .judge in
+    let b = c .before .before .before .b .given in
+    let span = b .0 .0 in
+    let sheet = c .before .before .before .before .before .before .before .before .args .sheet in
+    let w = j .ensures .spans span (b .1) in (
+      root-under (j .result) (j .ensures) span (b .1),
+      rw (sym (place-under (j .result) (j .ensures) span (b .1)))
+          (part-is (span .at) (span .at + span .len - span .at) _ sheet refl refl (omega arith) refl),
+    )
 
 pub root-of-spec : {M : Type 1} → statement M
 root-of-spec =

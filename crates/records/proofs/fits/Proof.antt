@@ -38,10 +38,19 @@ node-fits-requires : tie.Need-node-fits-requires
 node-fits-requires c κs = search needs
 
 returns-5 : tie.Need-returns-5
-returns-5 c = c .node-fits .ensures ∙ sym (kind-node (c .before .before .before .before .before .before .before .args .kind) (c .before .before .before .before .before .before .before .args .p .now) (omega arith) (omega arith) (c .before .before .before .if3 .left) (c .before .before .if4 .left) (c .before .if5 .taken))
+returns-5 c =
+    let start = c .before .before .before .before .before .before .before in
+    let if3 = c .before .before .before .if3 in
+    let if4 = c .before .before .if4 in
+    let if5 = c .before .if5 in
+    c .node-fits .ensures ∙ sym (kind-node (start .args .kind) (start .args .p .now) (omega arith) (omega arith) (if3 .left) (if4 .left) (if5 .taken))
 
 returns-6 : tie.Need-returns-6
-returns-6 c = sym (kind-other (c .before .before .before .before .before .before .args .kind) (c .before .before .before .before .before .before .args .p .now) (omega arith) (omega arith) (c .before .before .if3 .left) (c .before .if4 .left) (c .if5 .left))
+returns-6 c =
+    let start = c .before .before .before .before .before .before in
+    let if3 = c .before .before .if3 in
+    let if4 = c .before .if4 in
+    sym (kind-other (start .args .kind) (start .args .p .now) (omega arith) (omega arith) (if3 .left) (if4 .left) (c .if5 .left))
 
 pub fits-spec : {M : Type 1} → statement M
 fits-spec =

@@ -1,6 +1,7 @@
 -- `records::node_fits` meets its contract: each way out is a law of its own.
 -- Assumes nothing.
 use mathlib.Core.Path.{sym}
+use native.Mathlib.Omega.{arith}
 use Rattle.records.proofs.Framing.{node-empty, node-unknown, node-known}
 use borrow.Author.Needs.{needs}
 use Rattle.records.proofs.node_fits.Statement.{statement}
@@ -11,6 +12,9 @@ returns c = sym (node-empty _ (c .if1 .taken))
 
 shared-slice-read-k : tie.Need-shared-slice-read-k
 shared-slice-read-k c = search needs
+
+cast-if2 : tie.Need-cast-if2
+cast-if2 c = omega (arith, c .shared-slice-known .given 0)
 
 returns-2 : tie.Need-returns-2
 returns-2 c = sym (node-unknown _ (c .if2 .taken))
@@ -36,6 +40,7 @@ node-fits-spec =
     (tie.spec
     returns
     shared-slice-read-k
+    cast-if2
     returns-2
     sub-result
     cast-result

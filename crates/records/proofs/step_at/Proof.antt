@@ -19,7 +19,9 @@ sub-if2 : tie.Need-sub-if2
 sub-if2 c = search needs
 
 returns-2 : tie.Need-returns-2
-returns-2 c = breaks (c .before .before .before .args .s .now) (c .before .before .before .args .at) (broken-short (c .before .before .before .args .s .now) (c .before .before .before .args .at) (c .if2 .taken))
+returns-2 c =
+    let start = c .before .before .before in
+    breaks (start .args .s .now) (start .args .at) (broken-short (start .args .s .now) (start .args .at) (c .if2 .taken))
 
 add-len : tie.Need-add-len
 add-len c = search needs
@@ -37,13 +39,20 @@ sub-if3 : tie.Need-sub-if3
 sub-if3 c = search needs
 
 returns-3 : tie.Need-returns-3
-returns-3 c = breaks (c .before .before .before .before .before .args .s .now) (c .before .before .before .before .before .args .at) (broken-cut (c .before .before .before .before .before .args .s .now) (c .before .before .before .before .before .args .at) (c .before .before .if2 .left) (c .if3 .taken))
+returns-3 c =
+    let start = c .before .before .before .before .before in
+    let if2 = c .before .before .if2 in
+    breaks (start .args .s .now) (start .args .at) (broken-cut (start .args .s .now) (start .args .at) (if2 .left) (c .if3 .taken))
 
 shared-slice-read-if4 : tie.Need-shared-slice-read-if4
 shared-slice-read-if4 c = search needs
 
 returns-4 : tie.Need-returns-4
-returns-4 c = breaks (c .before .before .before .before .before .before .before .args .s .now) (c .before .before .before .before .before .before .before .args .at) (broken-mark (c .before .before .before .before .before .before .before .args .s .now) (c .before .before .before .before .before .before .before .args .at) (c .before .before .before .before .if2 .left) (c .before .before .if3 .left) (c .if4 .taken))
+returns-4 c =
+    let start = c .before .before .before .before .before .before .before in
+    let if2 = c .before .before .before .before .if2 in
+    let if3 = c .before .before .if3 in
+    breaks (start .args .s .now) (start .args .at) (broken-mark (start .args .s .now) (start .args .at) (if2 .left) (if3 .left) (c .if4 .taken))
 
 add-if5 : tie.Need-add-if5
 add-if5 c = search needs
@@ -52,7 +61,12 @@ shared-slice-read-if5 : tie.Need-shared-slice-read-if5
 shared-slice-read-if5 c = search needs
 
 returns-5 : tie.Need-returns-5
-returns-5 c = breaks (c .before .before .before .before .before .before .before .before .before .args .s .now) (c .before .before .before .before .before .before .before .before .before .args .at) (broken-second (c .before .before .before .before .before .before .before .before .before .args .s .now) (c .before .before .before .before .before .before .before .before .before .args .at) (c .before .before .before .before .before .before .if2 .left) (c .before .before .before .before .if3 .left) (c .before .before .if4 .left) (c .if5 .taken))
+returns-5 c =
+    let start = c .before .before .before .before .before .before .before .before .before in
+    let if2 = c .before .before .before .before .before .before .if2 in
+    let if3 = c .before .before .before .before .if3 in
+    let if4 = c .before .before .if4 in
+    breaks (start .args .s .now) (start .args .at) (broken-second (start .args .s .now) (start .args .at) (if2 .left) (if3 .left) (if4 .left) (c .if5 .taken))
 
 add-kind : tie.Need-add-kind
 add-kind c = search needs
@@ -76,10 +90,26 @@ fits-requires : tie.Need-fits-requires
 fits-requires c κs = search needs
 
 returns-6 : tie.Need-returns-6
-returns-6 c = breaks (c .before .before .before .before .before .before .before .before .before .before .before .before .before .args .s .now) (c .before .before .before .before .before .before .before .before .before .before .before .before .before .args .at) (framed-by (c .before .before .before .before .before .before .before .before .before .before .before .before .before .args .s .now) (c .before .before .before .before .before .before .before .before .before .before .before .before .before .args .at) (c .before .before .before .before .before .before .before .before .before .before .if2 .left) (c .before .before .before .before .before .before .before .before .if3 .left) (c .before .before .before .before .before .before .if4 .left) (c .before .before .before .before .if5 .left) (c .before .fits2 .result) (c .before .fits2 .ensures) ∙ not-true (c .before .fits2 .result) (c .if6 .taken))
+returns-6 c =
+    let start = c .before .before .before .before .before .before .before .before .before .before .before .before .before in
+    let if2 = c .before .before .before .before .before .before .before .before .before .before .if2 in
+    let if3 = c .before .before .before .before .before .before .before .before .if3 in
+    let if4 = c .before .before .before .before .before .before .if4 in
+    let if5 = c .before .before .before .before .if5 in
+    let fits2 = c .before .fits2 in
+    breaks (start .args .s .now) (start .args .at)
+    (framed-by (start .args .s .now) (start .args .at) (if2 .left) (if3 .left) (if4 .left) (if5 .left) (fits2 .result) (fits2 .ensures) ∙ not-true (fits2 .result) (c .if6 .taken))
 
 returns-7 : tie.Need-returns-7
-returns-7 c = sym (ap (λ (f : Frame). answer (Whole f)) (frame-bytes (c .before .before .before .before .before .before .before .before .before .before .before .before .before .args .s .now) (c .before .before .before .before .before .before .before .before .before .before .before .before .before .args .at))) ∙ stands (c .before .before .before .before .before .before .before .before .before .before .before .before .before .args .s .now) (c .before .before .before .before .before .before .before .before .before .before .before .before .before .args .at) (framed-by (c .before .before .before .before .before .before .before .before .before .before .before .before .before .args .s .now) (c .before .before .before .before .before .before .before .before .before .before .before .before .before .args .at) (c .before .before .before .before .before .before .before .before .before .before .if2 .left) (c .before .before .before .before .before .before .before .before .if3 .left) (c .before .before .before .before .before .before .if4 .left) (c .before .before .before .before .if5 .left) (c .before .fits2 .result) (c .before .fits2 .ensures) ∙ not-false (c .before .fits2 .result) (c .if6 .left))
+returns-7 c =
+    let start = c .before .before .before .before .before .before .before .before .before .before .before .before .before in
+    let if2 = c .before .before .before .before .before .before .before .before .before .before .if2 in
+    let if3 = c .before .before .before .before .before .before .before .before .if3 in
+    let if4 = c .before .before .before .before .before .before .if4 in
+    let if5 = c .before .before .before .before .if5 in
+    let fits2 = c .before .fits2 in
+    sym (ap (λ (f : Frame). answer (Whole f)) (frame-bytes (start .args .s .now) (start .args .at))) ∙ stands (start .args .s .now) (start .args .at)
+    (framed-by (start .args .s .now) (start .args .at) (if2 .left) (if3 .left) (if4 .left) (if5 .left) (fits2 .result) (fits2 .ensures) ∙ not-false (fits2 .result) (c .if6 .left))
 
 pub step-at-spec : {M : Type 1} → statement M
 step-at-spec =

@@ -5,6 +5,7 @@ use mathlib.Core.Path.{_≡_, refl, ap, _∙_}
 use native.Mathlib.Omega.{arith}
 use native.Mathlib.Numerals.{add-one}
 use borrow.Author.Needs.{needs}
+use Rattle.meaning.specs.Limits.{wordBits}
 use Rattle.meaning.specs.Steps.{rowTo, nextRow}
 use Rattle.sheet.specs.Sound.{rulesIn}
 use Rattle.rows.proofs.Arms.{few-nodes, node-fits, shifted, row-grows}
@@ -31,7 +32,17 @@ shl-row : tie.Need-shl-row Inv-loop μ-loop
 shl-row c = let h = few-nodes (c .before .before .before .before .args .s) (c .before .before .before .before .pre) in omega arith
 
 add-row : tie.Need-add-row Inv-loop μ-loop
-add-row c = let r = rulesIn (c .before .before .before .before .args .s) in let p = c .before .before .before .before .args .«before» in let x = c .before .before .before .before .args .x in let n = c .before .before .before .loop .n in let b = c .before .node-bit .result in let h : n < 64 = (let k = few-nodes (c .before .before .before .before .args .s) (c .before .before .before .before .pre) in omega arith) in record { fits = rw (c .one-if .ensures, shifted b n h, c .before .before .before .loop .inv .1) (row-grows r p x n b h) }
+add-row c =
+    let start = c .before .before .before .before in
+    let loop = c .before .before .before .loop in
+    let node-bit = c .before .node-bit in
+    let r = rulesIn (start .args .s) in
+    let p = start .args .«before» in
+    let x = start .args .x in
+    let n = loop .n in
+    let b = node-bit .result in
+    let h : n < wordBits = (let k = few-nodes (start .args .s) (start .pre) in omega arith) in
+    record { fits = rw (c .one-if .ensures, shifted b n h, loop .inv .1) (row-grows r p x n b h) }
 
 add-n : tie.Need-add-n Inv-loop μ-loop
 add-n c = omega arith
@@ -41,11 +52,25 @@ loop-less c = omega arith
 
 loop-again : tie.Need-loop-again Inv-loop μ-loop
 unfolding rowTo
-loop-again c = let r = rulesIn (c .before .before .before .before .args .s) in let p = c .before .before .before .before .args .«before» in let x = c .before .before .before .before .args .x in let n = c .before .before .before .loop .n in let b = c .before .node-bit .result in let h : n < 64 = (let k = few-nodes (c .before .before .before .before .args .s) (c .before .before .before .before .pre) in omega arith) in (omega arith, rw (add-one, c .one-if .ensures, shifted b n h, c .before .node-bit .ensures, c .before .before .before .loop .inv .1))
+loop-again c =
+    let start = c .before .before .before .before in
+    let loop = c .before .before .before .loop in
+    let node-bit = c .before .node-bit in
+    let r = rulesIn (start .args .s) in
+    let p = start .args .«before» in
+    let x = start .args .x in
+    let n = loop .n in
+    let b = node-bit .result in
+    let h : n < wordBits = (let k = few-nodes (start .args .s) (start .pre) in omega arith) in
+    (omega arith, rw (add-one, c .one-if .ensures, shifted b n h, node-bit .ensures, loop .inv .1))
 
 returns : tie.Need-returns Inv-loop μ-loop
 unfolding nextRow rulesIn
-returns c = let q : c .before .loop .n ≡ c .before .before .args .s .nodes = omega arith in c .before .loop .inv .1 ∙ ap (rowTo (rulesIn (c .before .before .args .s)) (c .before .before .args .«before») (c .before .before .args .x)) q
+returns c =
+    let loop = c .before .loop in
+    let start = c .before .before in
+    let q : loop .n ≡ start .args .s .nodes = omega arith in
+    loop .inv .1 ∙ ap (rowTo (rulesIn (start .args .s)) (start .args .«before») (start .args .x)) q
 
 pub next-row-spec : {M : Type 1} → statement M
 next-row-spec =

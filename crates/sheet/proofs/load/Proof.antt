@@ -8,7 +8,7 @@ use lib.ListN.{length}
 use borrow.Author.Needs.{needs}
 use Rattle.records.proofs.Framing.{broken-says, broken-told, whole-told}
 use Rattle.sheet.proofs.Loading.{Walking, start, breaks-off, answers-refused, answers-no-node, answers-sheet, answers-long}
-use Rattle.sheet.proofs.Stepping.{f-known, f-inside, f-next, f-fails, few, f-fits, f-goes-on}
+use Rattle.sheet.proofs.Stepping.{f-known, f-inside, f-next, f-fails, f-counts, f-fits, f-goes-on}
 use Rattle.sheet.proofs.load.Statement.{statement}
 use Rattle.sheet.proofs.load.Tie as tie
 
@@ -46,40 +46,116 @@ refusal-requires-2 : tie.Need-refusal-requires-2 Inv-loop μ-loop
 refusal-requires-2 c κs = search needs
 
 returns-2 : tie.Need-returns-2 Inv-loop μ-loop
-returns-2 c = c .refusal2 .ensures ∙ answers-refused (c .before .before .before .before .before .before .before .before .before .before .args .s .now) (c .before .before .before .before .before .before .before .before .if1 .left) 11 (breaks-off (c .before .before .before .before .before .before .before .before .before .before .args .s .now) (c .before .before .before .before .before .loop .sheet) (c .before .before .before .before .before .loop .t) (c .before .before .before .before .before .loop .at) (c .before .before .before .before .before .loop .inv .1) (c .before .before .before .before .loop-test .taken) (broken-says (c .before .before .before .before .before .before .before .before .before .before .args .s .now) (c .before .before .before .before .before .loop .at) (broken-told (c .before .before .before .read-at .result) (c .before .before .before .read-at .ensures) (c .before .enum-told .given .1))))
+returns-2 c =
+    let start = c .before .before .before .before .before .before .before .before .before .before in
+    let if1 = c .before .before .before .before .before .before .before .before .if1 in
+    let loop = c .before .before .before .before .before .loop in
+    let loop-test = c .before .before .before .before .loop-test in
+    let read-at = c .before .before .before .read-at in
+    let enum-told = c .before .enum-told in
+    c .refusal2 .ensures ∙ answers-refused (start .args .s .now) (if1 .left) 11
+    (breaks-off (start .args .s .now) (loop .sheet) (loop .t) (loop .at) (loop .inv .1) (loop-test .taken) (broken-says (start .args .s .now) (loop .at) (broken-told (read-at .result) (read-at .ensures) (enum-told .given .1))))
 
 fault-requires : tie.Need-fault-requires Inv-loop μ-loop
-fault-requires c κs = let k = f-known (c .before .before .before .before .before .before .before .before .before .before .args .s .now) (c .before .before .before .before .before .loop .sheet) (c .before .before .before .before .before .loop .t) (c .before .before .before .before .before .loop .at) (c .before .before .before .before .before .loop .inv .1) (c .before .f .given .0 .0) (whole-told (c .before .before .before .read-at .result) _ (c .before .before .before .read-at .ensures) (c .before .f .given .1)) in (c .before .before .before .before .before .loop .inv .1 .stands .inside, f-inside (c .before .before .before .before .before .before .before .before .before .before .args .s .now) (c .before .before .before .before .before .loop .sheet) (c .before .before .before .before .before .loop .t) (c .before .before .before .before .before .loop .at) (c .before .before .before .before .before .loop .inv .1) (c .before .f .given .0 .0) (whole-told (c .before .before .before .read-at .result) _ (c .before .before .before .read-at .ensures) (c .before .f .given .1)), k .0, k .1)
+fault-requires c κs =
+    let start = c .before .before .before .before .before .before .before .before .before .before in
+    let loop = c .before .before .before .before .before .loop in
+    let f = c .before .f in
+    let read-at = c .before .before .before .read-at in
+    let says = whole-told (read-at .result) _ (read-at .ensures) (f .given .1) in
+    let k = f-known (start .args .s .now) (loop .sheet) (loop .t) (loop .at) (loop .inv .1) (f .given .0 .0) says in
+    (loop .inv .1 .stands .inside, f-inside (start .args .s .now) (loop .sheet) (loop .t) (loop .at) (loop .inv .1) (f .given .0 .0) says, k)
 
 refusal-requires-3 : tie.Need-refusal-requires-3 Inv-loop μ-loop
 refusal-requires-3 c κs = search needs
 
 returns-3 : tie.Need-returns-3 Inv-loop μ-loop
-returns-3 c = c .refusal3 .ensures ∙ answers-refused (c .before .before .before .before .before .before .before .before .before .before .before .before .before .args .s .now) (c .before .before .before .before .before .before .before .before .before .before .before .if1 .left) (c .before .before .fault .result) (f-fails (c .before .before .before .before .before .before .before .before .before .before .before .before .before .args .s .now) (c .before .before .before .before .before .before .before .before .loop .sheet) (c .before .before .before .before .before .before .before .before .loop .t) (c .before .before .before .before .before .before .before .before .loop .at) (c .before .before .before .before .before .before .before .before .loop .inv .1) (c .before .before .before .before .f .given .0 .0) (whole-told (c .before .before .before .before .before .before .read-at .result) _ (c .before .before .before .before .before .before .read-at .ensures) (c .before .before .before .before .f .given .1)) (c .before .before .fault .result) (c .before .before .fault .ensures) (c .before .if2 .taken))
+returns-3 c =
+    let start = c .before .before .before .before .before .before .before .before .before .before .before .before .before in
+    let if1 = c .before .before .before .before .before .before .before .before .before .before .before .if1 in
+    let fault = c .before .before .fault in
+    let loop = c .before .before .before .before .before .before .before .before .loop in
+    let f = c .before .before .before .before .f in
+    let read-at = c .before .before .before .before .before .before .read-at in
+    let if2 = c .before .if2 in
+    let says = whole-told (read-at .result) _ (read-at .ensures) (f .given .1) in
+    c .refusal3 .ensures ∙ answers-refused (start .args .s .now) (if1 .left) (fault .result)
+    (f-fails (start .args .s .now) (loop .sheet) (loop .t) (loop .at) (loop .inv .1) (f .given .0 .0) says (fault .result) (fault .ensures) (if2 .taken))
 
 payload-requires : tie.Need-payload-requires Inv-loop μ-loop
-payload-requires c κs = f-inside (c .before .before .before .before .before .before .before .before .before .before .before .before .args .s .now) (c .before .before .before .before .before .before .before .loop .sheet) (c .before .before .before .before .before .before .before .loop .t) (c .before .before .before .before .before .before .before .loop .at) (c .before .before .before .before .before .before .before .loop .inv .1) (c .before .before .before .f .given .0 .0) (whole-told (c .before .before .before .before .before .read-at .result) _ (c .before .before .before .before .before .read-at .ensures) (c .before .before .before .f .given .1))
+payload-requires c κs =
+    let start = c .before .before .before .before .before .before .before .before .before .before .before .before in
+    let loop = c .before .before .before .before .before .before .before .loop in
+    let f = c .before .before .before .f in
+    let read-at = c .before .before .before .before .before .read-at in
+    let says = whole-told (read-at .result) _ (read-at .ensures) (f .given .1) in
+    f-inside (start .args .s .now) (loop .sheet) (loop .t) (loop .at) (loop .inv .1) (f .given .0 .0) says
 
 with-record-requires : tie.Need-with-record-requires Inv-loop μ-loop
-with-record-requires c κs = let k = f-known (c .before .before .before .before .before .before .before .before .before .before .before .before .before .args .s .now) (c .before .before .before .before .before .before .before .before .loop .sheet) (c .before .before .before .before .before .before .before .before .loop .t) (c .before .before .before .before .before .before .before .before .loop .at) (c .before .before .before .before .before .before .before .before .loop .inv .1) (c .before .before .before .before .f .given .0 .0) (whole-told (c .before .before .before .before .before .before .read-at .result) _ (c .before .before .before .before .before .before .read-at .ensures) (c .before .before .before .before .f .given .1)) in (k .0, k .1, f-fits (c .before .before .before .before .before .before .before .before .before .before .before .before .before .args .s .now) (c .before .before .before .before .before .before .before .before .loop .sheet) (c .before .before .before .before .before .before .before .before .loop .t) (c .before .before .before .before .before .before .before .before .loop .at) (c .before .before .before .before .before .before .before .before .loop .inv .1) (c .before .before .before .before .f .given .0 .0) (whole-told (c .before .before .before .before .before .before .read-at .result) _ (c .before .before .before .before .before .before .read-at .ensures) (c .before .before .before .before .f .given .1)) (sym (c .before .if2 .left) ∙ c .before .before .fault .ensures) (c .payload .result .now) (c .payload .ensures))
+with-record-requires c κs =
+    let start = c .before .before .before .before .before .before .before .before .before .before .before .before .before in
+    let loop = c .before .before .before .before .before .before .before .before .loop in
+    let f = c .before .before .before .before .f in
+    let read-at = c .before .before .before .before .before .before .read-at in
+    let if2 = c .before .if2 in
+    let fault = c .before .before .fault in
+    let says = whole-told (read-at .result) _ (read-at .ensures) (f .given .1) in
+    f-fits (start .args .s .now) (loop .sheet) (loop .t) (loop .at) (loop .inv .1) (f .given .0 .0) says (sym (if2 .left) ∙ fault .ensures) (c .payload .result .now) (c .payload .ensures)
 
 tally-after-requires : tie.Need-tally-after-requires Inv-loop μ-loop
-tally-after-requires c κs = few (c .before .before .before .before .before .before .before .before .before .before .before .before .before .before .args .s .now) (c .before .before .before .before .before .before .before .before .before .loop .sheet) (c .before .before .before .before .before .before .before .before .before .loop .t) (c .before .before .before .before .before .before .before .before .before .loop .at) (c .before .before .before .before .before .before .before .before .before .loop .inv .1) (c .before .before .before .before .before .f .given .0 .0) (whole-told (c .before .before .before .before .before .before .before .read-at .result) _ (c .before .before .before .before .before .before .before .read-at .ensures) (c .before .before .before .before .before .f .given .1))
+tally-after-requires c κs =
+    let start = c .before .before .before .before .before .before .before .before .before .before .before .before .before .before in
+    let loop = c .before .before .before .before .before .before .before .before .before .loop in
+    let f = c .before .before .before .before .before .f in
+    let read-at = c .before .before .before .before .before .before .before .read-at in
+    let says = whole-told (read-at .result) _ (read-at .ensures) (f .given .1) in
+    f-counts (start .args .s .now) (loop .sheet) (loop .t) (loop .at) (loop .inv .1) (f .given .0 .0) says
 
 loop-less : tie.Need-loop-less Inv-loop μ-loop
-loop-less c = let k = f-next (c .before .before .before .before .before .before .before .before .before .before .before .before .before .before .before .args .s .now) (c .before .before .before .before .before .before .before .before .before .before .loop .sheet) (c .before .before .before .before .before .before .before .before .before .before .loop .t) (c .before .before .before .before .before .before .before .before .before .before .loop .at) (c .before .before .before .before .before .before .before .before .before .before .loop .inv .1) (c .before .before .before .before .before .before .f .given .0 .0) (whole-told (c .before .before .before .before .before .before .before .before .read-at .result) _ (c .before .before .before .before .before .before .before .before .read-at .ensures) (c .before .before .before .before .before .before .f .given .1)) in omega arith
+loop-less c =
+    let start = c .before .before .before .before .before .before .before .before .before .before .before .before .before .before .before in
+    let loop = c .before .before .before .before .before .before .before .before .before .before .loop in
+    let f = c .before .before .before .before .before .before .f in
+    let read-at = c .before .before .before .before .before .before .before .before .read-at in
+    let says = whole-told (read-at .result) _ (read-at .ensures) (f .given .1) in
+    let k = f-next (start .args .s .now) (loop .sheet) (loop .t) (loop .at) (loop .inv .1) (f .given .0 .0) says in
+    omega arith
 
 loop-again : tie.Need-loop-again Inv-loop μ-loop
-loop-again c = (f-next (c .before .before .before .before .before .before .before .before .before .before .before .before .before .before .before .args .s .now) (c .before .before .before .before .before .before .before .before .before .before .loop .sheet) (c .before .before .before .before .before .before .before .before .before .before .loop .t) (c .before .before .before .before .before .before .before .before .before .before .loop .at) (c .before .before .before .before .before .before .before .before .before .before .loop .inv .1) (c .before .before .before .before .before .before .f .given .0 .0) (whole-told (c .before .before .before .before .before .before .before .before .read-at .result) _ (c .before .before .before .before .before .before .before .before .read-at .ensures) (c .before .before .before .before .before .before .f .given .1)) .1, f-goes-on (c .before .before .before .before .before .before .before .before .before .before .before .before .before .before .before .args .s .now) (c .before .before .before .before .before .before .before .before .before .before .loop .sheet) (c .before .before .before .before .before .before .before .before .before .before .loop .t) (c .before .before .before .before .before .before .before .before .before .before .loop .at) (c .before .before .before .before .before .before .before .before .before .before .loop .inv .1) (c .before .before .before .before .before .before .f .given .0 .0) (whole-told (c .before .before .before .before .before .before .before .before .read-at .result) _ (c .before .before .before .before .before .before .before .before .read-at .ensures) (c .before .before .before .before .before .before .f .given .1)) (sym (c .before .before .before .if2 .left) ∙ c .before .before .before .before .fault .ensures) (c .before .before .payload .result .now) (c .before .before .payload .ensures) (c .before .with-record .result) (c .before .with-record .ensures) (c .tally-after .result) (c .tally-after .ensures))
+loop-again c =
+    let start = c .before .before .before .before .before .before .before .before .before .before .before .before .before .before .before in
+    let loop = c .before .before .before .before .before .before .before .before .before .before .loop in
+    let f = c .before .before .before .before .before .before .f in
+    let read-at = c .before .before .before .before .before .before .before .before .read-at in
+    let if2 = c .before .before .before .if2 in
+    let fault = c .before .before .before .before .fault in
+    let payload = c .before .before .payload in
+    let with-record = c .before .with-record in
+    let says = whole-told (read-at .result) _ (read-at .ensures) (f .given .1) in (
+      f-next (start .args .s .now) (loop .sheet) (loop .t) (loop .at) (loop .inv .1) (f .given .0 .0) says .1,
+      f-goes-on (start .args .s .now) (loop .sheet) (loop .t) (loop .at) (loop .inv .1) (f .given .0 .0) says (sym (if2 .left) ∙ fault .ensures)
+          (payload .result .now) (payload .ensures) (with-record .result) (with-record .ensures) (c .tally-after .result) (c .tally-after .ensures),
+    )
 
 refusal-requires-4 : tie.Need-refusal-requires-4 Inv-loop μ-loop
 refusal-requires-4 c κs = search needs
 
 returns-4 : tie.Need-returns-4 Inv-loop μ-loop
-returns-4 c = c .refusal4 .ensures ∙ answers-no-node (c .before .before .before .before .before .before .before .before .before .args .s .now) (c .before .before .before .before .before .before .before .if1 .left) (c .before .before .before .before .loop .sheet) (c .before .before .before .before .loop .t) (c .before .before .before .before .loop .at) (c .before .before .before .before .loop .inv .1) (c .before .before .before .loop-test .left) (c .before .if3 .taken)
+returns-4 c =
+    let start = c .before .before .before .before .before .before .before .before .before in
+    let if1 = c .before .before .before .before .before .before .before .if1 in
+    let loop = c .before .before .before .before .loop in
+    let loop-test = c .before .before .before .loop-test in
+    let if3 = c .before .if3 in
+    c .refusal4 .ensures ∙ answers-no-node (start .args .s .now) (if1 .left) (loop .sheet) (loop .t) (loop .at) (loop .inv .1) (loop-test .left) (if3 .taken)
 
 returns-5 : tie.Need-returns-5 Inv-loop μ-loop
-returns-5 c = answers-sheet (c .before .before .before .before .before .before .before .before .args .s .now) (c .before .before .before .before .before .before .if1 .left) (c .before .before .before .loop .sheet) (c .before .before .before .loop .t) (c .before .before .before .loop .at) (c .before .before .before .loop .inv .1) (c .before .before .loop-test .left) (c .if3 .left)
+returns-5 c =
+    let start = c .before .before .before .before .before .before .before .before in
+    let if1 = c .before .before .before .before .before .before .if1 in
+    let loop = c .before .before .before .loop in
+    let loop-test = c .before .before .loop-test in
+    answers-sheet (start .args .s .now) (if1 .left) (loop .sheet) (loop .t) (loop .at) (loop .inv .1) (loop-test .left) (c .if3 .left)
 
 pub load-spec : {M : Type 1} → statement M
 load-spec =

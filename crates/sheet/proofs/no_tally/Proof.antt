@@ -1,7 +1,7 @@
 -- `sheet::no_tally` meets its contract.
 -- Assumes nothing.
 use mathlib.Core.Path.{refl}
-use Rattle.sheet.specs.Loads.{noTally}
+use Rattle.sheet.specs.ByRecord.{noTally}
 use Rattle.sheet.proofs.no_tally.Statement.{statement}
 use Rattle.sheet.proofs.no_tally.Tie as tie
 

@@ -1,34 +1,37 @@
 -- `sheet::tally_after` meets its contract.
 -- Assumes nothing.
-use native.Mathlib.Omega.{arith}
-use Rattle.sheet.specs.Loads.{counted}
+use mathlib.Core.Path.{refl}
+use Rattle.sheet.specs.ByRecord.{counted}
 use borrow.Author.Needs.{needs}
 use Rattle.sheet.proofs.tally_after.Statement.{statement}
 use Rattle.sheet.proofs.tally_after.Tie as tie
 
-one-if-requires : tie.Need-one-if-requires
-one-if-requires c κs = search needs
+sub-k : tie.Need-sub-k
+sub-k c = search needs
 
-add-t8 : tie.Need-add-t8
-add-t8 c = omega arith
+cast-k : tie.Need-cast-k
+cast-k c = search needs
 
-one-if-requires-2 : tie.Need-one-if-requires-2
-one-if-requires-2 c κs = search needs
+mul-t : tie.Need-mul-t
+mul-t c = search needs
 
-add-t11 : tie.Need-add-t11
-add-t11 c = omega arith
+element-copy-out-t : tie.Need-element-copy-out-t
+element-copy-out-t c = search needs
 
-one-if-requires-3 : tie.Need-one-if-requires-3
-one-if-requires-3 c κs = search needs
+add-t : tie.Need-add-t
+add-t c = search needs
 
-add-t14 : tie.Need-add-t14
-add-t14 c = omega arith
+mul-t-2 : tie.Need-mul-t-2
+mul-t-2 c = search needs
+
+element-write-t : tie.Need-element-write-t
+element-write-t c = search needs
 
 returns : tie.Need-returns
 unfolding counted
-returns c = rw (c .before .one-if3 .ensures .0, c .before .before .before .one-if2 .ensures .0, c .before .before .before .before .before .one-if .ensures .0)
+returns c = refl
 
 pub tally-after-spec : {M : Type 1} → statement M
 tally-after-spec =
     tie.close
-    (tie.spec one-if-requires add-t8 one-if-requires-2 add-t11 one-if-requires-3 add-t14 returns)
+    (tie.spec sub-k cast-k mul-t element-copy-out-t add-t mul-t-2 element-write-t returns)

@@ -6,6 +6,7 @@ use native.Mathlib.Omega.{arith}
 use lib.ListN.{length, take, drop}
 use borrow.Author.Needs.{needs}
 use borrow.Author.Tests.{not-true, not-false}
+use Rattle.meaning.specs.Limits.{keptMost}
 use Rattle.meaning.specs.History.{letGo}
 use Rattle.sheet.specs.Sound.{rulesIn}
 use Rattle.window.proofs.Moves.{run-stops, run-goes-on, run-ends}
@@ -31,7 +32,17 @@ is-closed-requires : tie.Need-is-closed-requires Inv-loop μ-loop
 is-closed-requires c κs = c .before .before .pre .0
 
 returns : tie.Need-returns Inv-loop μ-loop
-returns c = let z : length (c .before .before .before .before .args .t2) ≡ 64 = search needs in let h : c .before .before .before .before .args .kept ≤ length (c .before .before .before .before .args .t2) = (let p = c .before .before .before .before .pre .1 in omega arith) in let e = run-stops (rulesIn (c .before .before .before .before .args .s)) (c .before .before .before .before .args .t2) (c .before .before .before .before .args .kept) h (c .before .before .before .loop .k) (c .before .before .loop-test .taken) (sym (c .before .is-closed .ensures) ∙ not-true (c .before .is-closed .result) (c .if1 .taken)) in let i = c .before .before .before .loop .inv .1 in omega arith
+returns c =
+    let start = c .before .before .before .before in
+    let loop = c .before .before .before .loop in
+    let loop-test = c .before .before .loop-test in
+    let is-closed = c .before .is-closed in
+    let z : length (start .args .t2) ≡ keptMost = search needs in
+    let h : start .args .kept ≤ length (start .args .t2) = (let p = start .pre .1 in omega arith) in
+    let e = run-stops (rulesIn (start .args .s)) (start .args .t2) (start .args .kept) h (loop .k) (loop-test .taken)
+    (sym (is-closed .ensures) ∙ not-true (is-closed .result) (c .if1 .taken)) in
+    let i = loop .inv .1 in
+    omega arith
 
 add-k : tie.Need-add-k Inv-loop μ-loop
 add-k c = search needs
@@ -40,10 +51,27 @@ loop-less : tie.Need-loop-less Inv-loop μ-loop
 loop-less c = search needs
 
 loop-again : tie.Need-loop-again Inv-loop μ-loop
-loop-again c = let z : length (c .before .before .before .before .args .t2) ≡ 64 = search needs in let h : c .before .before .before .before .args .kept ≤ length (c .before .before .before .before .args .t2) = (let p = c .before .before .before .before .pre .1 in omega arith) in let e = run-goes-on (rulesIn (c .before .before .before .before .args .s)) (c .before .before .before .before .args .t2) (c .before .before .before .before .args .kept) h (c .before .before .before .loop .k) (c .before .before .loop-test .taken) (sym (c .before .is-closed .ensures) ∙ not-false (c .before .is-closed .result) (c .if1 .left)) in let i = c .before .before .before .loop .inv .1 in (omega arith, omega arith)
+loop-again c =
+    let start = c .before .before .before .before in
+    let loop = c .before .before .before .loop in
+    let loop-test = c .before .before .loop-test in
+    let is-closed = c .before .is-closed in
+    let z : length (start .args .t2) ≡ keptMost = search needs in
+    let h : start .args .kept ≤ length (start .args .t2) = (let p = start .pre .1 in omega arith) in
+    let e = run-goes-on (rulesIn (start .args .s)) (start .args .t2) (start .args .kept) h (loop .k) (loop-test .taken)
+    (sym (is-closed .ensures) ∙ not-false (is-closed .result) (c .if1 .left)) in
+    let i = loop .inv .1 in
+    (omega arith, omega arith)
 
 returns-2 : tie.Need-returns-2 Inv-loop μ-loop
-returns-2 c = let z : length (c .before .before .args .t2) ≡ 64 = search needs in let h : c .before .before .args .kept ≤ length (c .before .before .args .t2) = (let p = c .before .before .pre .1 in omega arith) in let e = run-ends (rulesIn (c .before .before .args .s)) (c .before .before .args .t2) (c .before .before .args .kept) h (c .before .loop .k) (c .loop-test .left) in let i = c .before .loop .inv .1 in omega arith
+returns-2 c =
+    let start = c .before .before in
+    let loop = c .before .loop in
+    let z : length (start .args .t2) ≡ keptMost = search needs in
+    let h : start .args .kept ≤ length (start .args .t2) = (let p = start .pre .1 in omega arith) in
+    let e = run-ends (rulesIn (start .args .s)) (start .args .t2) (start .args .kept) h (loop .k) (c .loop-test .left) in
+    let i = loop .inv .1 in
+    omega arith
 
 pub front-closed-spec : {M : Type 1} → statement M
 front-closed-spec =

@@ -44,10 +44,20 @@ loop-less : tie.Need-loop-less Inv-loop μ-loop
 loop-less c = search needs
 
 loop-again : tie.Need-loop-again Inv-loop μ-loop
-loop-again c = c .before .before .before .before .before .loop .inv ∙ rw (c .next-row .ensures, c .before .before .row-before .ensures) (refreshed-step (rulesIn (c .before .before .before .before .before .before .args .s)) (c .before .before .before .before .before .before .args .carried) (c .before .before .before .before .before .before .args .sets .now) (c .before .before .before .before .before .loop .rows) (c .before .before .before .before .before .loop .j) (c .before .before .before .before .before .before .args .kept) (c .before .before .before .before .loop-test .taken))
+loop-again c =
+    let loop = c .before .before .before .before .before .loop in
+    let row-before = c .before .before .row-before in
+    let start = c .before .before .before .before .before .before in
+    let loop-test = c .before .before .before .before .loop-test in
+    loop .inv ∙ rw (c .next-row .ensures, row-before .ensures)
+    (refreshed-step (rulesIn (start .args .s)) (start .args .carried) (start .args .sets .now) (loop .rows) (loop .j) (start .args .kept) (loop-test .taken))
 
 returns : tie.Need-returns Inv-loop μ-loop
-returns c = sym (c .before .loop .inv ∙ refreshed-end (rulesIn (c .before .before .args .s)) (c .before .before .args .carried) (c .before .before .args .sets .now) (c .before .loop .rows) (c .before .loop .j) (c .before .before .args .kept) (c .loop-test .left))
+returns c =
+    let loop = c .before .loop in
+    let start = c .before .before in
+    sym
+    (loop .inv ∙ refreshed-end (rulesIn (start .args .s)) (start .args .carried) (start .args .sets .now) (loop .rows) (loop .j) (start .args .kept) (c .loop-test .left))
 
 pub rows-from-spec : {M : Type 1} → statement M
 rows-from-spec =

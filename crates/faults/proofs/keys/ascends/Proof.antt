@@ -19,7 +19,11 @@ loop-holds : tie.Need-loop-holds Inv-loop μ-loop
 loop-holds c = search needs
 
 returns : tie.Need-returns Inv-loop μ-loop
-returns c = sym (c .before .before .loop .inv .1 ∙ from-prefix (c .before .before .before .args .x .now) (c .before .before .before .args .y .now) (c .before .before .loop .i) (c .if1 .taken) (c .before .loop-test .taken))
+returns c =
+    let loop = c .before .before .loop in
+    let start = c .before .before .before in
+    let loop-test = c .before .loop-test in
+    sym (loop .inv .1 ∙ from-prefix (start .args .x .now) (start .args .y .now) (loop .i) (c .if1 .taken) (loop-test .taken))
 
 shared-slice-read-if2 : tie.Need-shared-slice-read-if2 Inv-loop μ-loop
 shared-slice-read-if2 c = search needs
@@ -28,7 +32,12 @@ shared-slice-read-if2-2 : tie.Need-shared-slice-read-if2-2 Inv-loop μ-loop
 shared-slice-read-if2-2 c = search needs
 
 returns-2 : tie.Need-returns-2 Inv-loop μ-loop
-returns-2 c = sym (c .before .before .before .before .before .loop .inv .1 ∙ from-less (c .before .before .before .before .before .before .args .x .now) (c .before .before .before .before .before .before .args .y .now) (c .before .before .before .before .before .loop .i) (c .before .before .before .if1 .left) (c .before .before .before .before .loop-test .taken) (c .if2 .taken))
+returns-2 c =
+    let loop = c .before .before .before .before .before .loop in
+    let start = c .before .before .before .before .before .before in
+    let if1 = c .before .before .before .if1 in
+    let loop-test = c .before .before .before .before .loop-test in
+    sym (loop .inv .1 ∙ from-less (start .args .x .now) (start .args .y .now) (loop .i) (if1 .left) (loop-test .taken) (c .if2 .taken))
 
 shared-slice-read-if3 : tie.Need-shared-slice-read-if3 Inv-loop μ-loop
 shared-slice-read-if3 c = search needs
@@ -37,7 +46,12 @@ shared-slice-read-if3-2 : tie.Need-shared-slice-read-if3-2 Inv-loop μ-loop
 shared-slice-read-if3-2 c = search needs
 
 returns-3 : tie.Need-returns-3 Inv-loop μ-loop
-returns-3 c = sym (c .before .before .before .before .before .before .before .before .loop .inv .1 ∙ from-more (c .before .before .before .before .before .before .before .before .before .args .x .now) (c .before .before .before .before .before .before .before .before .before .args .y .now) (c .before .before .before .before .before .before .before .before .loop .i) (c .before .before .before .before .before .before .if1 .left) (c .before .before .before .before .before .before .before .loop-test .taken) (c .if3 .taken))
+returns-3 c =
+    let loop = c .before .before .before .before .before .before .before .before .loop in
+    let start = c .before .before .before .before .before .before .before .before .before in
+    let if1 = c .before .before .before .before .before .before .if1 in
+    let loop-test = c .before .before .before .before .before .before .before .loop-test in
+    sym (loop .inv .1 ∙ from-more (start .args .x .now) (start .args .y .now) (loop .i) (if1 .left) (loop-test .taken) (c .if3 .taken))
 
 add-i : tie.Need-add-i Inv-loop μ-loop
 add-i c = search needs
@@ -46,7 +60,13 @@ loop-less : tie.Need-loop-less Inv-loop μ-loop
 loop-less c = search needs
 
 loop-again : tie.Need-loop-again Inv-loop μ-loop
-loop-again c = (search needs, c .before .before .before .before .before .before .before .before .loop .inv .1 ∙ from-equal (c .before .before .before .before .before .before .before .before .before .args .x .now) (c .before .before .before .before .before .before .before .before .before .args .y .now) (c .before .before .before .before .before .before .before .before .loop .i) (c .before .before .before .before .before .before .if1 .left) (c .before .before .before .before .before .before .before .loop-test .taken) (c .if3 .left) (c .before .before .before .if2 .left))
+loop-again c =
+    let loop = c .before .before .before .before .before .before .before .before .loop in
+    let start = c .before .before .before .before .before .before .before .before .before in
+    let if1 = c .before .before .before .before .before .before .if1 in
+    let loop-test = c .before .before .before .before .before .before .before .loop-test in
+    let if2 = c .before .before .before .if2 in
+    (search needs, loop .inv .1 ∙ from-equal (start .args .x .now) (start .args .y .now) (loop .i) (if1 .left) (loop-test .taken) (c .if3 .left) (if2 .left))
 
 returns-4 : tie.Need-returns-4 Inv-loop μ-loop
 returns-4 c = sym (c .before .loop .inv .1 ∙ from-end (c .before .before .args .x .now) (c .before .before .args .y .now) (c .before .loop .i) (c .loop-test .left))

@@ -12,14 +12,28 @@ byte-requires c κs = search needs
 byte-requires-2 : tie.Need-byte-requires-2
 byte-requires-2 c κs = search needs
 
-returns : tie.Need-returns
-returns c = rw (c .before .before .byte .ensures) (sym (range-count (c .before .before .before .before .args .events) (c .before .before .before .before .args .earlier) (c .before .before .before .before .args .p .now) (c .before .before .before .before .args .kind) (c .if1 .taken)))
+small-requires : tie.Need-small-requires
+small-requires c κs = search needs
 
-wide-requires : tie.Need-wide-requires
-wide-requires c κs = search needs
+returns : tie.Need-returns
+returns c =
+    let byte = c .before .before .before .byte in
+    let start = c .before .before .before .before .before in
+    let if1 = c .before .if1 in
+    rw (c .small .ensures, byte .ensures)
+    (sym (range-count (start .args .events) (start .args .earlier) (start .args .p .now) (start .args .kind) (if1 .taken)))
+
+small-requires-2 : tie.Need-small-requires-2
+small-requires-2 c κs = search needs
 
 returns-2 : tie.Need-returns-2
-returns-2 c = rw (c .wide .ensures, c .before .before .before .byte2 .ensures, c .before .before .before .before .byte .ensures) (sym (range-root (c .before .before .before .before .before .before .args .events) (c .before .before .before .before .before .before .args .earlier) (c .before .before .before .before .before .before .args .p .now) (c .before .before .before .before .before .before .args .kind) (c .before .if2 .taken)))
+returns-2 c =
+    let byte2 = c .before .before .before .byte2 in
+    let byte = c .before .before .before .before .byte in
+    let start = c .before .before .before .before .before .before in
+    let if2 = c .before .if2 in
+    rw (c .small2 .ensures, byte2 .ensures, byte .ensures)
+    (sym (range-root (start .args .events) (start .args .earlier) (start .args .p .now) (start .args .kind) (if2 .taken)))
 
 byte-requires-3 : tie.Need-byte-requires-3
 byte-requires-3 c κs = search needs
@@ -28,13 +42,28 @@ node-ok-requires : tie.Need-node-ok-requires
 node-ok-requires c κs = search needs
 
 returns-3 : tie.Need-returns-3
-returns-3 c = c .node-ok .ensures ∙ rw (c .before .byte3 .ensures, c .before .before .before .before .before .byte2 .ensures, c .before .before .before .before .before .before .byte .ensures) (sym (range-node (c .before .before .before .before .before .before .before .before .args .events) (c .before .before .before .before .before .before .before .before .args .earlier) (c .before .before .before .before .before .before .before .before .args .p .now) (c .before .before .before .before .before .before .before .before .args .kind) (c .before .before .if3 .taken)))
+returns-3 c =
+    let byte3 = c .before .byte3 in
+    let byte2 = c .before .before .before .before .before .byte2 in
+    let byte = c .before .before .before .before .before .before .byte in
+    let start = c .before .before .before .before .before .before .before .before in
+    let if3 = c .before .before .if3 in
+    c .node-ok .ensures ∙ rw (byte3 .ensures, byte2 .ensures, byte .ensures)
+    (sym (range-node (start .args .events) (start .args .earlier) (start .args .p .now) (start .args .kind) (if3 .taken)))
 
 pair-ok-requires : tie.Need-pair-ok-requires
 pair-ok-requires c κs = search needs
 
 returns-4 : tie.Need-returns-4
-returns-4 c = c .pair-ok .ensures ∙ rw (c .before .before .before .before .byte2 .ensures, c .before .before .before .before .before .byte .ensures) (sym (range-pair (c .before .before .before .before .before .before .before .args .events) (c .before .before .before .before .before .before .before .args .earlier) (c .before .before .before .before .before .before .before .args .p .now) (c .before .before .before .before .before .before .before .args .kind) (c .before .before .before .before .before .before .before .pre .0) (c .before .before .before .before .before .before .before .pre .1) (c .before .before .before .if1 .left) (c .before .before .if2 .left) (c .before .if3 .left)))
+returns-4 c =
+    let byte2 = c .before .before .before .before .byte2 in
+    let byte = c .before .before .before .before .before .byte in
+    let start = c .before .before .before .before .before .before .before in
+    let if1 = c .before .before .before .if1 in
+    let if2 = c .before .before .if2 in
+    let if3 = c .before .if3 in
+    c .pair-ok .ensures ∙ rw (byte2 .ensures, byte .ensures)
+    (sym (range-pair (start .args .events) (start .args .earlier) (start .args .p .now) (start .args .kind) (start .pre) (if1 .left) (if2 .left) (if3 .left)))
 
 pub in-range-spec : {M : Type 1} → statement M
 in-range-spec =
@@ -42,8 +71,9 @@ in-range-spec =
     (tie.spec
     byte-requires
     byte-requires-2
+    small-requires
     returns
-    wide-requires
+    small-requires-2
     returns-2
     byte-requires-3
     node-ok-requires

@@ -5,12 +5,12 @@ use borrow.Author.Needs.{needs}
 use Rattle.faults.proofs.ranges.pair_ok.Statement.{statement}
 use Rattle.faults.proofs.ranges.pair_ok.Tie as tie
 
-wide-requires : tie.Need-wide-requires
-wide-requires c κs = search needs
+small-requires : tie.Need-small-requires
+small-requires c κs = search needs
 
 returns : tie.Need-returns
 unfolding pairInRange
-returns c = rw (c .wide .ensures)
+returns c = rw (c .small .ensures)
 
 pub pair-ok-spec : {M : Type 1} → statement M
-pair-ok-spec = tie.close (tie.spec wide-requires returns)
+pair-ok-spec = tie.close (tie.spec small-requires returns)

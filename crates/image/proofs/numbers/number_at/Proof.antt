@@ -6,9 +6,8 @@ use native.Mathlib.Omega.{arith}
 use native.Mathlib.Nat.{sub-self}
 use lib.ListN.{take, drop}
 use Rattle.meaning.specs.Image.{numberOf}
-use Rattle.image.proofs.Bytes.{number-more, number-bound, eight}
+use Rattle.image.proofs.Bytes.{number-more, number-bound, row-worth}
 use borrow.Author.Needs.{needs}
-use Prim.Native.Nat.{_+_, _-_, _*_, _^_, _≤_, _<_}
 use Rattle.image.proofs.numbers.number_at.Statement.{statement}
 use Rattle.image.proofs.numbers.number_at.Tie as tie
 
@@ -26,28 +25,53 @@ sub-k : tie.Need-sub-k Inv-loop μ-loop
 sub-k c = omega arith
 
 mul-value : tie.Need-mul-value Inv-loop μ-loop
-mul-value c = let w = number-bound (c .before .before .before .args .n) (c .before .loop .k) (c .before .loop .value) 0 (c .loop-test .taken) (c .before .loop .inv .0) (c .before .loop .inv .2) (omega arith) in let e = eight ((c .before .before .before .args .n) - ((c .before .loop .k) - 1)) ((c .before .loop .value) * 256 + 0) (omega arith) w in omega arith
+mul-value c =
+    let start = c .before .before .before in
+    let loop = c .before .loop in
+    let w = number-bound (start .args .n) (loop .k) (loop .value) 0 (c .loop-test .taken) (loop .inv .0) (loop .inv .2) (omega arith) in
+    let e = row-worth ((start .args .n) - ((loop .k) - 1)) ((loop .value) * 256 + 0) (omega arith) w in
+    omega arith
 
-add-wide : tie.Need-add-wide Inv-loop μ-loop
-add-wide c = omega arith
+add-byte : tie.Need-add-byte Inv-loop μ-loop
+add-byte c = omega arith
 
-shared-slice-read-wide : tie.Need-shared-slice-read-wide Inv-loop μ-loop
-shared-slice-read-wide c = omega arith
+shared-slice-read-byte : tie.Need-shared-slice-read-byte Inv-loop μ-loop
+shared-slice-read-byte c = omega arith
 
-wide-requires : tie.Need-wide-requires Inv-loop μ-loop
-wide-requires c κs = search needs
+byte-requires : tie.Need-byte-requires Inv-loop μ-loop
+byte-requires c κs = search needs
 
 add-value : tie.Need-add-value Inv-loop μ-loop
-add-value c = let e = eight ((c .before .before .before .before .before .args .n) - ((c .before .before .before .loop .k) - 1)) ((c .before .before .before .loop .value) * 256 + c .wide .result) (omega arith) (number-bound (c .before .before .before .before .before .args .n) (c .before .before .before .loop .k) (c .before .before .before .loop .value) (c .wide .result) (c .before .before .loop-test .taken) (c .before .before .before .loop .inv .0) (c .before .before .before .loop .inv .2) (c .wide .ensures .1)) in omega arith
+add-value c =
+    let start = c .before .before .before .before .before in
+    let loop = c .before .before .before .loop in
+    let loop-test = c .before .before .loop-test in
+    let e = row-worth ((start .args .n) - ((loop .k) - 1)) ((loop .value) * 256 + c .byte .result) (omega arith)
+    (number-bound (start .args .n) (loop .k) (loop .value) (c .byte .result) (loop-test .taken) (loop .inv .0) (loop .inv .2) (c .byte .ensures .1)) in
+    omega arith
 
 loop-less : tie.Need-loop-less Inv-loop μ-loop
 loop-less c = omega arith
 
 loop-again : tie.Need-loop-again Inv-loop μ-loop
-loop-again c = (omega arith, rw (c .wide .ensures .0) (number-more (c .before .before .before .before .before .args .s .now) (c .before .before .before .before .before .args .at) (c .before .before .before .before .before .args .n) (c .before .before .before .loop .k) (c .before .before .before .loop .value) (c .before .before .loop-test .taken) (c .before .before .before .loop .inv .0) (c .before .before .before .before .before .pre .1) (c .before .before .before .loop .inv .1)), number-bound (c .before .before .before .before .before .args .n) (c .before .before .before .loop .k) (c .before .before .before .loop .value) (c .wide .result) (c .before .before .loop-test .taken) (c .before .before .before .loop .inv .0) (c .before .before .before .loop .inv .2) (c .wide .ensures .1))
+loop-again c =
+    let start = c .before .before .before .before .before in
+    let loop = c .before .before .before .loop in
+    let loop-test = c .before .before .loop-test in (
+      omega arith,
+      rw (c .byte .ensures .0)
+          (number-more (start .args .s .now) (start .args .at) (start .args .n) (loop .k) (loop .value) (loop-test .taken) (loop .inv .0) (start .pre .1) (loop .inv .1)),
+      number-bound (start .args .n) (loop .k) (loop .value) (c .byte .result) (loop-test .taken) (loop .inv .0) (loop .inv .2) (c .byte .ensures .1),
+    )
 
 returns : tie.Need-returns Inv-loop μ-loop
-returns c = let z : (c .before .loop .k) ≡ 0 = omega arith in let q : (c .before .before .before .args .n) - 0 ≡ (c .before .before .before .args .n) = omega arith in let a : (c .before .before .before .args .at) + 0 ≡ (c .before .before .before .args .at) = omega arith in ((c .before .loop .inv .1) ∙ rw (z, q, a), rw (sym q ∙ ap (λ (x : ℕ). (c .before .before .before .args .n) - x) (sym z)) (c .before .loop .inv .2))
+returns c =
+    let loop = c .before .loop in
+    let start = c .before .before .before in
+    let z : (loop .k) ≡ 0 = omega arith in
+    let q : (start .args .n) - 0 ≡ (start .args .n) = omega arith in
+    let a : (start .args .at) + 0 ≡ (start .args .at) = omega arith in
+    ((loop .inv .1) ∙ rw (z, q, a), rw (sym q ∙ ap (λ (x : ℕ). (start .args .n) - x) (sym z)) (loop .inv .2))
 
 pub number-at-spec : {M : Type 1} → statement M
 number-at-spec =
@@ -58,9 +82,9 @@ number-at-spec =
     loop-holds
     sub-k
     mul-value
-    add-wide
-    shared-slice-read-wide
-    wide-requires
+    add-byte
+    shared-slice-read-byte
+    byte-requires
     add-value
     loop-less
     loop-again

@@ -6,9 +6,10 @@ use mathlib.Core.Bool.{true, false}
 use native.Mathlib.Omega.{arith}
 use lib.ListN.{length, getD, take, drop}
 use borrow.Author.Tests.{not-true, not-false}
+use Rattle.meaning.specs.Limits.{keptMost}
 use Rattle.meaning.specs.Lists.{all}
 use Rattle.sheet.specs.Sound.{rulesIn}
-use Rattle.image.specs.Images.{fine}
+use Rattle.image.specs.Parts.{fine}
 use Rattle.image.proofs.Saying.{all-more, all-end}
 use borrow.Author.Needs.{needs}
 use Rattle.image.proofs.reading.all_fine.Statement.{statement}
@@ -33,7 +34,15 @@ fine-requires : tie.Need-fine-requires Inv-loop μ-loop
 fine-requires c κs = c .before .before .pre .0
 
 returns : tie.Need-returns Inv-loop μ-loop
-returns c = let z : length (c .before .before .before .before .args .t2) ≡ 64 = search needs in let h : (c .before .before .before .before .args .kept) ≤ length (c .before .before .before .before .args .t2) = rw z (c .before .before .before .before .pre .1) in let q : (fine (rulesIn (c .before .before .before .before .args .s))) (getD (c .before .before .before .before .args .t2) (c .before .before .before .loop .j) 0) ≡ false = sym (c .before .fine .ensures) ∙ not-true (c .before .fine .result) (c .if1 .taken) in sym (c .before .before .before .loop .inv .1 ∙ all-more (fine (rulesIn (c .before .before .before .before .args .s))) (c .before .before .before .before .args .t2) (c .before .before .before .before .args .kept) h (c .before .before .before .loop .j) (c .before .before .loop-test .taken) ∙ rw q)
+returns c =
+    let start = c .before .before .before .before in
+    let loop = c .before .before .before .loop in
+    let fine′ = c .before .fine in
+    let loop-test = c .before .before .loop-test in
+    let z : length (start .args .t2) ≡ keptMost = search needs in
+    let h : (start .args .kept) ≤ length (start .args .t2) = rw z (start .pre .1) in
+    let q : (fine (rulesIn (start .args .s))) (getD (start .args .t2) (loop .j) 0) ≡ false = sym (fine′ .ensures) ∙ not-true (fine′ .result) (c .if1 .taken) in
+    sym (loop .inv .1 ∙ all-more (fine (rulesIn (start .args .s))) (start .args .t2) (start .args .kept) h (loop .j) (loop-test .taken) ∙ rw q)
 
 add-j : tie.Need-add-j Inv-loop μ-loop
 add-j c = let h = c .before .before .before .before .pre .1 in omega arith
@@ -42,10 +51,23 @@ loop-less : tie.Need-loop-less Inv-loop μ-loop
 loop-less c = omega arith
 
 loop-again : tie.Need-loop-again Inv-loop μ-loop
-loop-again c = let z : length (c .before .before .before .before .args .t2) ≡ 64 = search needs in let h : (c .before .before .before .before .args .kept) ≤ length (c .before .before .before .before .args .t2) = rw z (c .before .before .before .before .pre .1) in let q : (fine (rulesIn (c .before .before .before .before .args .s))) (getD (c .before .before .before .before .args .t2) (c .before .before .before .loop .j) 0) ≡ true = sym (c .before .fine .ensures) ∙ not-false (c .before .fine .result) (c .if1 .left) in (omega arith, c .before .before .before .loop .inv .1 ∙ all-more (fine (rulesIn (c .before .before .before .before .args .s))) (c .before .before .before .before .args .t2) (c .before .before .before .before .args .kept) h (c .before .before .before .loop .j) (c .before .before .loop-test .taken) ∙ rw q)
+loop-again c =
+    let start = c .before .before .before .before in
+    let loop = c .before .before .before .loop in
+    let fine′ = c .before .fine in
+    let loop-test = c .before .before .loop-test in
+    let z : length (start .args .t2) ≡ keptMost = search needs in
+    let h : (start .args .kept) ≤ length (start .args .t2) = rw z (start .pre .1) in
+    let q : (fine (rulesIn (start .args .s))) (getD (start .args .t2) (loop .j) 0) ≡ true = sym (fine′ .ensures) ∙ not-false (fine′ .result) (c .if1 .left) in
+    (omega arith, loop .inv .1 ∙ all-more (fine (rulesIn (start .args .s))) (start .args .t2) (start .args .kept) h (loop .j) (loop-test .taken) ∙ rw q)
 
 returns-2 : tie.Need-returns-2 Inv-loop μ-loop
-returns-2 c = let z : length (c .before .before .args .t2) ≡ 64 = search needs in let h : (c .before .before .args .kept) ≤ length (c .before .before .args .t2) = rw z (c .before .before .pre .1) in sym (c .before .loop .inv .1 ∙ all-end (fine (rulesIn (c .before .before .args .s))) (c .before .before .args .t2) (c .before .before .args .kept) h (c .before .loop .j) (c .loop-test .left))
+returns-2 c =
+    let start = c .before .before in
+    let loop = c .before .loop in
+    let z : length (start .args .t2) ≡ keptMost = search needs in
+    let h : (start .args .kept) ≤ length (start .args .t2) = rw z (start .pre .1) in
+    sym (loop .inv .1 ∙ all-end (fine (rulesIn (start .args .s))) (start .args .t2) (start .args .kept) h (loop .j) (c .loop-test .left))
 
 pub all-fine-spec : {M : Type 1} → statement M
 all-fine-spec =

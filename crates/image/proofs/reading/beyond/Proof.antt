@@ -4,13 +4,14 @@ use Prim.Native.Nat.{_^_}
 use mathlib.Core.Path.{sym}
 use native.Mathlib.Omega.{arith}
 use borrow.Author.Tests.{lt-leb}
+use Rattle.meaning.specs.Limits.{wordBits}
 use Rattle.image.proofs.Parts.{high-bits}
 use borrow.Author.Needs.{needs}
 use Rattle.image.proofs.reading.beyond.Statement.{statement}
 use Rattle.image.proofs.reading.beyond.Tie as tie
 
 returns : tie.Need-returns
-returns c = sym (rw (c .if1 .taken) (lt-leb (2 ^ 64) (c .before .args .x) (omega arith)))
+returns c = sym (rw (c .if1 .taken) (lt-leb (2 ^ wordBits) (c .before .args .x) (omega arith)))
 
 shr-result : tie.Need-shr-result
 shr-result c = search needs

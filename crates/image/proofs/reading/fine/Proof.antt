@@ -13,7 +13,11 @@ allowed-requires : tie.Need-allowed-requires
 allowed-requires c κs = few-events (c .before .before .before .before .before .args .s) (c .before .before .before .before .before .pre)
 
 returns : tie.Need-returns
-returns c = rw (c .before .before .before .beyond .ensures, not-beyond (c .before .before .before .before .before .before .args .s .events) (c .before .before .before .before .before .before .args .x), c .allowed .ensures, allowed-over (c .before .before .before .before .before .before .args .s) (c .before .before .before .before .before .before .args .x)) (fine-is (c .before .before .before .before .before .before .args .s) (c .before .before .before .before .before .before .args .x))
+returns c =
+    let beyond = c .before .before .before .beyond in
+    let start = c .before .before .before .before .before .before in
+    rw (beyond .ensures, not-beyond (start .args .s .events) (start .args .x), c .allowed .ensures, allowed-over (start .args .s) (start .args .x))
+    (fine-is (start .args .s) (start .args .x))
 
 pub fine-spec : {M : Type 1} → statement M
 fine-spec = tie.close (tie.spec beyond-requires allowed-requires returns)

@@ -4,6 +4,7 @@ use mathlib.Core.Path.{_≡_, sym}
 use lib.ListN.{length, take}
 use Rattle.sheet.specs.Sound.{rulesIn}
 use Rattle.rows.proofs.Arms.{few-nodes}
+use Rattle.meaning.specs.Limits.{keptMost}
 use Rattle.image.proofs.Saying.{oldest-is, unlawful-is}
 use borrow.Author.Needs.{needs}
 use Rattle.image.proofs.reading.is_unlawful.Statement.{statement}
@@ -22,7 +23,13 @@ is-closed-requires : tie.Need-is-closed-requires
 is-closed-requires c κs = c .before .before .pre .0
 
 returns : tie.Need-returns
-returns c = let z : length (c .before .before .before .args .t3) ≡ 64 = search needs in rw (c .before .before .all-fine .ensures, c .before .beyond .ensures, c .is-closed .ensures, sym (oldest-is (rulesIn (c .before .before .before .args .s)) (c .before .before .before .args .kept) (c .before .before .before .args .t3) z)) (unlawful-is (c .before .before .before .args .s) (c .before .before .before .args .carried) (take (c .before .before .before .args .kept) (c .before .before .before .args .t3)))
+returns c =
+    let start = c .before .before .before in
+    let all-fine = c .before .before .all-fine in
+    let beyond = c .before .beyond in
+    let z : length (start .args .t3) ≡ keptMost = search needs in
+    rw (all-fine .ensures, beyond .ensures, c .is-closed .ensures, sym (oldest-is (rulesIn (start .args .s)) (start .args .kept) (start .args .t3) z))
+    (unlawful-is (start .args .s) (start .args .carried) (take (start .args .kept) (start .args .t3)))
 
 pub is-unlawful-spec : {M : Type 1} → statement M
 is-unlawful-spec =

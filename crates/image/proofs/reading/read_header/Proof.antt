@@ -3,7 +3,7 @@
 use mathlib.Core.Path.{refl}
 use native.Mathlib.Omega.{arith}
 use Rattle.meaning.specs.Image.{keptIn}
-use Rattle.image.specs.Images.{answer}
+use Rattle.image.specs.Parts.{answer}
 use Rattle.image.proofs.Saying.{too-short, counts-wrong, wrong-if, unread-wrong, read-says}
 use Rattle.image.proofs.Saying.{too-short, counts-wrong, wrong-if}
 use borrow.Author.Needs.{needs}
@@ -39,7 +39,18 @@ add-counted c = search needs
 
 returns-3 : tie.Need-returns-3
 unfolding answer
-returns-3 c = unread-wrong (c .before .before .before .before .before .before .before .before .before .args .s .now) (c .before .before .before .before .before .headed .result) (c .before .before .before .before .sessions-headed .result) (c .before .before .before .number-at .result) (c .before .before .number-at2 .result) (c .before .number-at3 .result) (c .before .before .before .before .before .headed .ensures) (c .before .before .before .before .sessions-headed .ensures) (c .before .before .before .number-at .ensures .0) (c .before .before .number-at2 .ensures .0) (c .before .number-at3 .ensures .0) (c .before .before .before .before .before .before .before .if1 .left) (c .before .before .before .before .before .before .if2 .left) (c .if3 .taken)
+returns-3 c =
+    let start = c .before .before .before .before .before .before .before .before .before in
+    let headed = c .before .before .before .before .before .headed in
+    let sessions-headed = c .before .before .before .before .sessions-headed in
+    let number-at = c .before .before .before .number-at in
+    let number-at2 = c .before .before .number-at2 in
+    let number-at3 = c .before .number-at3 in
+    let if1 = c .before .before .before .before .before .before .before .if1 in
+    let if2 = c .before .before .before .before .before .before .if2 in
+    unread-wrong (start .args .s .now) (headed .result) (sessions-headed .result) (number-at .result) (number-at2 .result) (number-at3 .result)
+    (headed .ensures) (sessions-headed .ensures) (number-at .ensures .0) (number-at2 .ensures .0) (number-at3 .ensures .0) (if1 .left) (if2 .left)
+    (c .if3 .taken)
 
 cast-t21 : tie.Need-cast-t21
 cast-t21 c = search needs
@@ -49,7 +60,17 @@ cast-t22 c = search needs
 
 returns-4 : tie.Need-returns-4
 unfolding answer
-returns-4 c = read-says (c .before .before .before .before .before .before .before .before .before .args .s .now) (c .before .before .before .before .before .headed .result) (c .before .before .before .before .sessions-headed .result) (c .before .before .before .number-at .result) (c .before .before .number-at2 .result) (c .before .number-at3 .result) (c .before .before .before .before .before .headed .ensures) (c .before .before .before .before .sessions-headed .ensures) (c .before .before .before .number-at .ensures .0) (c .before .before .number-at2 .ensures .0) (c .before .number-at3 .ensures .0) (c .before .before .before .before .before .before .before .if1 .left) (c .before .before .before .before .before .before .if2 .left) (c .if3 .left)
+returns-4 c =
+    let start = c .before .before .before .before .before .before .before .before .before in
+    let headed = c .before .before .before .before .before .headed in
+    let sessions-headed = c .before .before .before .before .sessions-headed in
+    let number-at = c .before .before .before .number-at in
+    let number-at2 = c .before .before .number-at2 in
+    let number-at3 = c .before .number-at3 in
+    let if1 = c .before .before .before .before .before .before .before .if1 in
+    let if2 = c .before .before .before .before .before .before .if2 in
+    read-says (start .args .s .now) (headed .result) (sessions-headed .result) (number-at .result) (number-at2 .result) (number-at3 .result) (headed .ensures)
+    (sessions-headed .ensures) (number-at .ensures .0) (number-at2 .ensures .0) (number-at3 .ensures .0) (if1 .left) (if2 .left) (c .if3 .left)
 
 pub read-header-spec : {M : Type 1} → statement M
 read-header-spec =

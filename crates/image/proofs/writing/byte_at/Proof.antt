@@ -10,7 +10,10 @@ header-byte-requires : tie.Need-header-byte-requires
 header-byte-requires c κs = c .if1 .taken
 
 returns : tie.Need-returns
-returns c = c .header-byte .ensures ∙ whole-front (c .before .before .args .total) (c .before .before .args .gone) (c .before .before .args .carried) (c .before .before .args .sets .now) (c .before .before .args .i) (c .before .if1 .taken)
+returns c =
+    let start = c .before .before in
+    let if1 = c .before .if1 in
+    c .header-byte .ensures ∙ whole-front (start .args .total) (start .args .gone) (start .args .carried) (start .args .sets .now) (start .args .i) (if1 .taken)
 
 mul-session-byte : tie.Need-mul-session-byte
 mul-session-byte c = let h = c .before .pre .0 in omega arith
@@ -22,7 +25,12 @@ session-byte-requires : tie.Need-session-byte-requires
 session-byte-requires c κs = omega arith
 
 returns-2 : tie.Need-returns-2
-returns-2 c = let z = c .before .before .before .pre .1 in c .session-byte .ensures ∙ whole-later (c .before .before .before .args .total) (c .before .before .before .args .gone) (c .before .before .before .args .carried) (c .before .before .before .args .sets .now) (c .before .before .before .args .i) (c .before .before .if1 .left) (let h = c .before .before .before .pre .0 in omega arith)
+returns-2 c =
+    let start = c .before .before .before in
+    let if1 = c .before .before .if1 in
+    let z = start .pre .1 in
+    c .session-byte .ensures ∙ whole-later (start .args .total) (start .args .gone) (start .args .carried) (start .args .sets .now) (start .args .i) (if1 .left)
+    (let h = start .pre .0 in omega arith)
 
 pub byte-at-spec : {M : Type 1} → statement M
 byte-at-spec =

@@ -26,7 +26,17 @@ byte-at-requires : tie.Need-byte-at-requires Inv-loop μ-loop
 byte-at-requires c κs = let h = c .before .before .before .pre .0 in (omega arith, c .before .before .before .pre .2)
 
 slice-write-out : tie.Need-slice-write-out Inv-loop μ-loop
-slice-write-out c = let w = whole-length (c .before .before .before .before .args .total) (c .before .before .before .before .args .gone) (c .before .before .before .before .args .carried) (c .before .before .before .before .args .sets .now) in let h = c .before .before .before .before .pre .0 in let g = c .before .before .before .before .pre .1 in let z = c .before .before .before .before .pre .2 in let e : length (c .before .before .loop .out) ≡ length (c .before .before .before .before .args .out .now) = ap length (c .before .before .loop .inv .1) ∙ put-length (whole (c .before .before .before .before .args .total) (c .before .before .before .before .args .gone) (c .before .before .before .before .args .carried) (c .before .before .before .before .args .sets .now)) (c .before .before .before .before .args .out .now) (c .before .before .loop .i) (omega arith) (omega arith) in omega arith
+slice-write-out c =
+    let start = c .before .before .before .before in
+    let loop = c .before .before .loop in
+    let w = whole-length (start .args .total) (start .args .gone) (start .args .carried) (start .args .sets .now) in
+    let h = start .pre .0 in
+    let g = start .pre .1 in
+    let z = start .pre .2 in
+    let e : length (loop .out) ≡ length (start .args .out .now) = ap length (loop .inv .1) ∙ put-length
+    (whole (start .args .total) (start .args .gone) (start .args .carried) (start .args .sets .now)) (start .args .out .now) (loop .i) (omega arith)
+    (omega arith) in
+    omega arith
 
 add-i : tie.Need-add-i Inv-loop μ-loop
 add-i c = search needs
@@ -35,13 +45,33 @@ loop-less : tie.Need-loop-less Inv-loop μ-loop
 loop-less c = omega arith
 
 loop-again : tie.Need-loop-again Inv-loop μ-loop
-loop-again c = let w = whole-length (c .before .before .before .before .args .total) (c .before .before .before .before .args .gone) (c .before .before .before .before .args .carried) (c .before .before .before .before .args .sets .now) in let h = c .before .before .before .before .pre .0 in let g = c .before .before .before .before .pre .1 in let z = c .before .before .before .before .pre .2 in (omega arith, rw (c .byte-at .ensures, c .before .before .loop .inv .1) (put-more (whole (c .before .before .before .before .args .total) (c .before .before .before .before .args .gone) (c .before .before .before .before .args .carried) (c .before .before .before .before .args .sets .now)) (c .before .before .before .before .args .out .now) (c .before .before .loop .i) (omega arith) (omega arith)))
+loop-again c =
+    let start = c .before .before .before .before in
+    let loop = c .before .before .loop in
+    let w = whole-length (start .args .total) (start .args .gone) (start .args .carried) (start .args .sets .now) in
+    let h = start .pre .0 in
+    let g = start .pre .1 in
+    let z = start .pre .2 in
+    (omega arith, rw (c .byte-at .ensures, loop .inv .1) (put-more (whole (start .args .total) (start .args .gone) (start .args .carried) (start .args .sets .now)) (start .args .out .now) (loop .i) (omega arith) (omega arith)))
 
 same-length : tie.Need-same-length Inv-loop μ-loop
-same-length c = let w = whole-length (c .before .before .before .args .total) (c .before .before .before .args .gone) (c .before .before .before .args .carried) (c .before .before .before .args .sets .now) in let h = c .before .before .before .pre .0 in let g = c .before .before .before .pre .1 in let z = c .before .before .before .pre .2 in ap length (c .before .loop .inv .1) ∙ put-length (whole (c .before .before .before .args .total) (c .before .before .before .args .gone) (c .before .before .before .args .carried) (c .before .before .before .args .sets .now)) (c .before .before .before .args .out .now) (c .before .loop .i) (omega arith) (omega arith)
+same-length c =
+    let start = c .before .before .before in
+    let loop = c .before .loop in
+    let w = whole-length (start .args .total) (start .args .gone) (start .args .carried) (start .args .sets .now) in
+    let h = start .pre .0 in
+    let g = start .pre .1 in
+    let z = start .pre .2 in
+    ap length (loop .inv .1) ∙ put-length (whole (start .args .total) (start .args .gone) (start .args .carried) (start .args .sets .now))
+    (start .args .out .now) (loop .i) (omega arith) (omega arith)
 
 returns : tie.Need-returns Inv-loop μ-loop
-returns c = let q : (c .before .loop .i) ≡ c .before .before .before .args .len = omega arith in c .before .loop .inv .1 ∙ ap (λ (n : ℕ). take n (whole (c .before .before .before .args .total) (c .before .before .before .args .gone) (c .before .before .before .args .carried) (c .before .before .before .args .sets .now)) ++ drop n (c .before .before .before .args .out .now)) q
+returns c =
+    let loop = c .before .loop in
+    let start = c .before .before .before in
+    let q : (loop .i) ≡ start .args .len = omega arith in
+    loop .inv .1 ∙ ap
+    (λ (n : ℕ). take n (whole (start .args .total) (start .args .gone) (start .args .carried) (start .args .sets .now)) ++ drop n (start .args .out .now)) q
 
 pub put-spec : {M : Type 1} → statement M
 put-spec =

@@ -20,7 +20,11 @@ byte-of-requires : tie.Need-byte-of-requires
 byte-of-requires c κs = let h = c .before .before .pre in omega arith
 
 returns-2 : tie.Need-returns-2
-returns-2 c = rw (c .byte-of .ensures, c .before .wide .ensures) (session-set (c .before .before .before .args .set) (c .before .before .before .args .i) (c .before .before .if1 .left) (c .before .before .before .pre))
+returns-2 c =
+    let wide = c .before .wide in
+    let start = c .before .before .before in
+    let if1 = c .before .before .if1 in
+    rw (c .byte-of .ensures, wide .ensures) (session-set (start .args .set) (start .args .i) (if1 .left) (start .pre))
 
 pub session-byte-spec : {M : Type 1} → statement M
 session-byte-spec =

@@ -21,14 +21,30 @@ row-now-requires : tie.Need-row-now-requires
 row-now-requires c κs = fit-of (c .before .before .args .self) (sym (c .before .is-bad .ensures) ∙ c .if1 .left)
 
 sub-bit : tie.Need-sub-bit
-sub-bit c = some-nodes (c .before .before .before .before .args .self .sheet) (fit-of (c .before .before .before .before .args .self) (sym (c .before .before .before .is-bad .ensures) ∙ c .before .before .if1 .left) .sounds)
+sub-bit c =
+    let start = c .before .before .before .before in
+    let is-bad = c .before .before .before .is-bad in
+    let if1 = c .before .before .if1 in
+    some-nodes (start .args .self .sheet) (fit-of (start .args .self) (sym (is-bad .ensures) ∙ if1 .left) .sounds)
 
 bit-requires : tie.Need-bit-requires
-bit-requires c κs = let a = some-nodes (c .before .before .before .before .args .self .sheet) (fit-of (c .before .before .before .before .args .self) (sym (c .before .before .before .is-bad .ensures) ∙ c .before .before .if1 .left) .sounds) in let b = few-nodes (c .before .before .before .before .args .self .sheet) (fit-of (c .before .before .before .before .args .self) (sym (c .before .before .before .is-bad .ensures) ∙ c .before .before .if1 .left) .sounds) in omega arith
+bit-requires c κs =
+    let start = c .before .before .before .before in
+    let is-bad = c .before .before .before .is-bad in
+    let if1 = c .before .before .if1 in
+    let a = some-nodes (start .args .self .sheet) (fit-of (start .args .self) (sym (is-bad .ensures) ∙ if1 .left) .sounds) in
+    let b = few-nodes (start .args .self .sheet) (fit-of (start .args .self) (sym (is-bad .ensures) ∙ if1 .left) .sounds) in
+    omega arith
 
 returns-2 : tie.Need-returns-2
 unfolding checkOf
-returns-2 c = let q : bad (c .before .before .before .before .before .args .self) ≡ false = sym (c .before .before .before .before .is-bad .ensures) ∙ c .before .before .before .if1 .left in rw (q, c .bit .ensures, c .before .before .row-now .ensures)
+returns-2 c =
+    let start = c .before .before .before .before .before in
+    let is-bad = c .before .before .before .before .is-bad in
+    let if1 = c .before .before .before .if1 in
+    let row-now = c .before .before .row-now in
+    let q : bad (start .args .self) ≡ false = sym (is-bad .ensures) ∙ if1 .left in
+    rw (q, c .bit .ensures, row-now .ensures)
 
 pub check-spec : {M : Type 1} → statement M
 check-spec =

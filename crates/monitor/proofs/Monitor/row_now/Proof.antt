@@ -11,7 +11,11 @@ next-row-requires c κs = c .before .before .before .pre .sounds
 
 returns : tie.Need-returns
 unfolding rowNow
-returns c = rw (c .next-row .ensures, eq-eqb (c .before .before .before .before .args .t1 .kept) 0 (c .before .before .before .if1 .taken), eq-eqb (c .before .before .before .before .args .t1 .total) 0 (c .before .before .if2 .taken))
+returns c =
+    let start = c .before .before .before .before in
+    let if1 = c .before .before .before .if1 in
+    let if2 = c .before .before .if2 in
+    rw (c .next-row .ensures, eq-eqb (start .args .t1 .kept) 0 (if1 .taken), eq-eqb (start .args .t1 .total) 0 (if2 .taken))
 
 returns-2 : tie.Need-returns-2
 unfolding rowNow

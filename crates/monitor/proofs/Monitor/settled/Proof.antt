@@ -11,27 +11,46 @@ use Rattle.monitor.proofs.Monitor.settled.Tie as tie
 front-closed-requires : tie.Need-front-closed-requires
 front-closed-requires c κs = (c .before .before .before .pre .sounds, c .before .before .before .pre .few)
 
+-- no more are let go than are kept
+gone-few : (c : tie.After-front-closed) → c .front-closed .result ≤ c .before .before .before .before .args .self .kept
+gone-few c =
+    let m = c .before .before .before .before .args .self in
+    rw (c .front-closed .ensures) (run-le (rulesIn (m .sheet)) (m .sets) (m .kept))
+
 row-before-requires : tie.Need-row-before-requires
-row-before-requires c κs = let l : c .before .front-closed .result ≤ c .before .before .before .before .before .args .self .kept = rw (c .before .front-closed .ensures) (run-le (rulesIn (c .before .before .before .before .before .args .self .sheet)) (c .before .before .before .before .before .args .self .sets) (c .before .before .before .before .before .args .self .kept)) in let h = c .before .before .before .before .before .pre .few in let e = c .before .before .before .before .before .pre .counted in omega arith
+row-before-requires c κs =
+    let fit = c .before .before .before .before .before .pre in
+    let l = gone-few (c .before) in
+    let h = fit .few in
+    omega arith
 
-moved-sets-requires : tie.Need-moved-sets-requires
-moved-sets-requires c κs = let l : c .before .before .front-closed .result ≤ c .before .before .before .before .before .before .args .self .kept = rw (c .before .before .front-closed .ensures) (run-le (rulesIn (c .before .before .before .before .before .before .args .self .sheet)) (c .before .before .before .before .before .before .args .self .sets) (c .before .before .before .before .before .before .args .self .kept)) in let h = c .before .before .before .before .before .before .pre .few in let e = c .before .before .before .before .before .before .pre .counted in (l, h)
-
-moved-rows-requires : tie.Need-moved-rows-requires
-moved-rows-requires c κs = let l : c .before .before .before .front-closed .result ≤ c .before .before .before .before .before .before .before .args .self .kept = rw (c .before .before .before .front-closed .ensures) (run-le (rulesIn (c .before .before .before .before .before .before .before .args .self .sheet)) (c .before .before .before .before .before .before .before .args .self .sets) (c .before .before .before .before .before .before .before .args .self .kept)) in let h = c .before .before .before .before .before .before .before .pre .few in let e = c .before .before .before .before .before .before .before .pre .counted in (l, h)
+moved-up-requires : tie.Need-moved-up-requires
+moved-up-requires c κs = (gone-few (c .before .before), c .before .before .before .before .before .before .pre .few)
 
 cast-self : tie.Need-cast-self
-cast-self c = let l : c .before .before .before .before .front-closed .result ≤ c .before .before .before .before .before .before .before .before .args .self .kept = rw (c .before .before .before .before .front-closed .ensures) (run-le (rulesIn (c .before .before .before .before .before .before .before .before .args .self .sheet)) (c .before .before .before .before .before .before .before .before .args .self .sets) (c .before .before .before .before .before .before .before .before .args .self .kept)) in let h = c .before .before .before .before .before .before .before .before .pre .few in let e = c .before .before .before .before .before .before .before .before .pre .counted in omega arith
+cast-self c =
+    let fit = c .before .before .before .before .before .before .before .before .before .pre in
+    let l = gone-few (c .before .before .before .before .before) in
+    let h = fit .few in
+    omega arith
 
 add-self : tie.Need-add-self
-add-self c = let l : c .before .before .before .before .before .front-closed .result ≤ c .before .before .before .before .before .before .before .before .before .args .self .kept = rw (c .before .before .before .before .before .front-closed .ensures) (run-le (rulesIn (c .before .before .before .before .before .before .before .before .before .args .self .sheet)) (c .before .before .before .before .before .before .before .before .before .args .self .sets) (c .before .before .before .before .before .before .before .before .before .args .self .kept)) in let h = c .before .before .before .before .before .before .before .before .before .pre .few in let e = c .before .before .before .before .before .before .before .before .before .pre .counted in omega arith
+add-self c =
+    let fit = c .before .before .before .before .before .before .before .before .before .before .pre in
+    let l = gone-few (c .before .before .before .before .before .before) in
+    let e = fit .counted in
+    omega arith
 
 sub-self : tie.Need-sub-self
-sub-self c = let l : c .before .before .before .before .before .front-closed .result ≤ c .before .before .before .before .before .before .before .before .before .args .self .kept = rw (c .before .before .before .before .before .front-closed .ensures) (run-le (rulesIn (c .before .before .before .before .before .before .before .before .before .args .self .sheet)) (c .before .before .before .before .before .before .before .before .before .args .self .sets) (c .before .before .before .before .before .before .before .before .before .args .self .kept)) in let h = c .before .before .before .before .before .before .before .before .before .pre .few in let e = c .before .before .before .before .before .before .before .before .before .pre .counted in l
+sub-self c = gone-few (c .before .before .before .before .before .before)
 
 returns : tie.Need-returns
 unfolding settled
-returns c = rw (c .before .moved-rows .ensures, c .before .before .moved-sets .ensures, c .before .before .before .row-before .ensures, c .before .before .before .before .before .front-closed .ensures)
+returns c =
+    let up = c .before .before .before .moved-up in
+    let row-before = c .before .before .before .before .row-before in
+    let front-closed = c .before .before .before .before .before .before .front-closed in
+    rw (up .ensures .0, up .ensures .1, row-before .ensures, front-closed .ensures)
 
 pub settled-spec : {M : Type 1} → statement M
 settled-spec =
@@ -39,8 +58,7 @@ settled-spec =
     (tie.spec
     front-closed-requires
     row-before-requires
-    moved-sets-requires
-    moved-rows-requires
+    moved-up-requires
     cast-self
     add-self
     sub-self

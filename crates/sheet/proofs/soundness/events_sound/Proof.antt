@@ -44,14 +44,8 @@ wide-requires-2 c κs = search needs
 power-requires-2 : tie.Need-power-requires-2 Inv-loop μ-loop
 power-requires-2 c κs = c .before .before .before .before .before .pre
 
-mul-has : tie.Need-mul-has Inv-loop μ-loop
-mul-has c = search needs
-
-array-read-has : tie.Need-array-read-has Inv-loop μ-loop
-array-read-has c = search needs
-
-has-requires : tie.Need-has-requires Inv-loop μ-loop
-has-requires c κs = omega arith
+bit-requires : tie.Need-bit-requires Inv-loop μ-loop
+bit-requires c κs = omega arith
 
 add-e : tie.Need-add-e Inv-loop μ-loop
 add-e c = omega arith
@@ -61,10 +55,20 @@ loop-less c = omega arith
 
 loop-again : tie.Need-loop-again Inv-loop μ-loop
 unfolding every soundEvent
-loop-again c = (omega arith, rw (add-one, c .has .ensures, c .before .power2 .ensures, c .before .before .wide2 .ensures, c .before .before .before .power .ensures, c .before .before .before .before .wide .ensures, c .before .before .before .before .before .before .loop .inv .1))
+loop-again c =
+    let power2 = c .before .power2 in
+    let wide2 = c .before .before .wide2 in
+    let power = c .before .before .before .power in
+    let wide = c .before .before .before .before .wide in
+    let loop = c .before .before .before .before .before .before .loop in
+    (omega arith, rw (add-one, c .bit .ensures, power2 .ensures, wide2 .ensures, power .ensures, wide .ensures, loop .inv .1))
 
 returns : tie.Need-returns Inv-loop μ-loop
-returns c = let e : c .before .loop .e ≡ c .before .before .args .events = omega arith in c .before .loop .inv .1 ∙ ap (λ (k : ℕ). every k (soundEvent (c .before .before .args .t1) (c .before .before .args .t2) (c .before .before .args .events))) e
+returns c =
+    let loop = c .before .loop in
+    let start = c .before .before in
+    let e : loop .e ≡ start .args .events = omega arith in
+    loop .inv .1 ∙ ap (λ (k : ℕ). every k (soundEvent (start .args .t1) (start .args .t2) (start .args .events))) e
 
 pub events-sound-spec : {M : Type 1} → statement M
 events-sound-spec =
@@ -81,9 +85,7 @@ events-sound-spec =
     array-read-wide-2
     wide-requires-2
     power-requires-2
-    mul-has
-    array-read-has
-    has-requires
+    bit-requires
     add-e
     loop-less
     loop-again

@@ -23,6 +23,9 @@ loop-holds c = (omega arith, refl)
 array-read-k : tie.Need-array-read-k Inv-loop μ-loop
 array-read-k c = search needs
 
+cast-known : tie.Need-cast-known Inv-loop μ-loop
+cast-known c = search needs
+
 array-read-node-ok : tie.Need-array-read-node-ok Inv-loop μ-loop
 array-read-node-ok c = search needs
 
@@ -53,6 +56,7 @@ nodes-sound-spec =
     μ-loop
     loop-holds
     array-read-k
+    cast-known
     array-read-node-ok
     array-read-node-ok-2
     node-ok-requires
