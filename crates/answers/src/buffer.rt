@@ -1,5 +1,5 @@
-// What is written is gathered in a buffer, of which the first bytes up to at are still to be written, and handed over when the buffer is full and at the end.
-// So a run of very many lines asks the system only now and then.
+// What is written is gathered in a buffer, of which the first bytes up to at are still to be written. It is handed over when the buffer is full, and by
+// `flush`: so many lines that come at once ask the system only now and then.
 
 // The room for what is to be written.
 pub type Buffer = [u8; 65536];

@@ -61,8 +61,16 @@ fn feed(
     state
 }
 
-// Reads the input piece by piece until it ends or cannot be read. Nothing says that an input ends, so the turns are counted down from a number that
-// no run uses up.
+// Reads the next piece of the input, and says how many bytes it has: none where the input has ended or cannot be read. What is to be written is written
+// first, since reading may wait: so another program can send a command, read its answer, and only then send the next.
+fn more(piece: &mut [u8; 65536], out: &mut Buffer, at: &mut usize) -> usize {
+    buffer::flush(out, at);
+    let got = libc::read(0, piece);
+    io::count(got, piece)
+}
+
+// Takes the input piece by piece until there is no more. Nothing says that an input ends, so the turns are counted down from a number that no run
+// uses up.
 fn pieces(
     piece: &mut [u8; 65536],
     line: &mut Line,
@@ -73,8 +81,7 @@ fn pieces(
     let mut state = State::new();
     let mut turns = u64::MAX;
     while 0 < turns {
-        let got = libc::read(0, piece);
-        let k = io::count(got, piece);
+        let k = more(piece, out, at);
         if k == 0 {
             return state;
         }
