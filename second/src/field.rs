@@ -14,6 +14,8 @@ pub enum Field {
     Kind,
     Left,
     Right,
+    Needs,
+    Conflicts,
 }
 
 /// The place of the row carried past the sessions let go; those before it are
@@ -21,7 +23,7 @@ pub enum Field {
 pub const CARRIED: usize = 64;
 
 impl Field {
-    pub const ALL: [Field; 10] = [
+    pub const ALL: [Field; 12] = [
         Field::Total,
         Field::LetGo,
         Field::Kept,
@@ -32,6 +34,8 @@ impl Field {
         Field::Kind,
         Field::Left,
         Field::Right,
+        Field::Needs,
+        Field::Conflicts,
     ];
 
     pub fn name(self) -> &'static str {
@@ -46,6 +50,8 @@ impl Field {
             Field::Kind => "kind",
             Field::Left => "left",
             Field::Right => "right",
+            Field::Needs => "needs",
+            Field::Conflicts => "conflicts",
         }
     }
 
@@ -55,6 +61,7 @@ impl Field {
             Field::Total | Field::LetGo | Field::Kept | Field::Events | Field::Nodes => 1,
             Field::Row => CARRIED + 1,
             Field::Set | Field::Kind | Field::Left | Field::Right => 64,
+            Field::Needs | Field::Conflicts => 32,
         }
     }
 
@@ -72,6 +79,8 @@ impl Field {
             Field::Kind => state.tables.kind[place] = value as u8,
             Field::Left => state.tables.left[place] = value as u8,
             Field::Right => state.tables.right[place] = value as u8,
+            Field::Needs => state.tables.needs[place] = value as u32,
+            Field::Conflicts => state.tables.conflicts[place] = value as u32,
         }
     }
 
@@ -89,6 +98,8 @@ impl Field {
             Field::Kind => u64::from(state.tables.kind[place]),
             Field::Left => u64::from(state.tables.left[place]),
             Field::Right => u64::from(state.tables.right[place]),
+            Field::Needs => u64::from(state.tables.needs[place]),
+            Field::Conflicts => u64::from(state.tables.conflicts[place]),
         }
     }
 }

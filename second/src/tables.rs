@@ -63,6 +63,9 @@ impl Tables {
             && (0..self.nodes as usize).all(|place| self.node(place).fits(self.events, place))
     }
 
+    /// What a cause (a, b) and a conflict (a, b) with a < b, both events of
+    /// the sheet, leave at an event: needs below it, conflicts with others.
+    /// Needs not closed over chains and conflicts on one side pass.
     fn sound_event(&self, event: usize) -> bool {
         let conflicts = u64::from(self.conflicts[event]);
         u64::from(self.needs[event]) < 1 << event

@@ -1,9 +1,11 @@
 //! States that no call made: "unused places of a monitor hold 0" after each
-//! accepted begin or record, and a refused call alters nothing.
+//! accepted begin or record, and a refused call alters nothing; needs and
+//! conflicts that a hand has written are refused as 20 or used as they stand.
 
 use second::field::{Field, CARRIED};
 use second::monitor::Monitor;
 use second::stored::Stored;
+use second::Refusal;
 
 /// Two events, the second needs the first; nodes true and "previous true".
 const SHEET: [u8; 22] =
@@ -76,4 +78,42 @@ fn every_other_call_leaves_the_state_alone() {
     let before = whole(&monitor);
     assert_eq!(monitor.begin(), Err(27));
     assert!(whole(&monitor) == before);
+}
+
+/// The answer of counts once a value stands at a place of the stored sheet.
+fn counts_with(field: Field, place: usize, value: u64) -> Result<(u32, u32, u64), Refusal> {
+    let mut monitor = littered();
+    monitor.poke(|state| field.put(state, place, value));
+    monitor.counts()
+}
+
+#[test]
+fn needs_lie_below_their_event_and_conflicts_among_the_others() {
+    let fine = Ok((2, 0, 2));
+    for (value, told) in [(0, fine), (1, fine), (2, Err(20)), (3, Err(20)), (1 << 31, Err(20))] {
+        assert_eq!(counts_with(Field::Needs, 1, value), told);
+        assert_eq!(counts_with(Field::Conflicts, 1, value), told);
+    }
+    assert_eq!(counts_with(Field::Needs, 0, 1), Err(20));
+    assert_eq!(counts_with(Field::Conflicts, 0, 2), fine);
+    assert_eq!(counts_with(Field::Conflicts, 0, 4), Err(20));
+    for field in [Field::Needs, Field::Conflicts] {
+        assert_eq!(counts_with(field, 2, u64::MAX), fine);
+        assert_eq!(counts_with(field, 31, u64::MAX), fine);
+        assert_eq!(counts_with(field, 1, 1 << 32), fine);
+    }
+}
+
+#[test]
+fn needs_and_conflicts_are_used_as_they_stand() {
+    // No cause is left, and 1 conflicts with 0, but 0 not with 1.
+    let mut monitor = littered();
+    monitor.poke(|state| Field::Needs.put(state, 1, 0));
+    monitor.poke(|state| Field::Conflicts.put(state, 1, 1));
+    assert_eq!(monitor.record(2, 1), Ok(()));
+    assert_eq!(monitor.record(2, 0), Ok(()));
+    assert_eq!(monitor.record(2, 1), Err(23));
+    // {0} is closed, so both sessions are let go.
+    assert_eq!(monitor.record(1, 0), Ok(()));
+    assert_eq!(monitor.counts(), Ok((2, 2, 0)));
 }

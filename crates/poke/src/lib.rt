@@ -17,6 +17,8 @@ enum Field {
     Kind,
     Left,
     Right,
+    Needs,
+    Conflicts,
     Unknown,
 }
 
@@ -63,6 +65,12 @@ fn field_of_sheet(word: &[u8]) -> Field {
     if text::same(word, b"right") {
         return Field::Right;
     }
+    if text::same(word, b"needs") {
+        return Field::Needs;
+    }
+    if text::same(word, b"conflicts") {
+        return Field::Conflicts;
+    }
     Field::Unknown
 }
 
@@ -72,6 +80,7 @@ fn places(f: Field) -> u32 {
         Field::Total | Field::LetGo | Field::Kept | Field::Events | Field::Nodes => 1,
         Field::Row => 65,
         Field::Set | Field::Kind | Field::Left | Field::Right => 64,
+        Field::Needs | Field::Conflicts => 32,
         Field::Unknown => 0,
     }
 }
@@ -84,6 +93,19 @@ fn low8(v: u64) -> u8 {
     (v % 256) as u8
 }
 
+// Puts v at event i of what the sheet's events need or conflict with; there are 32.
+fn put_at_event(mut s: Sheet, f: Field, i: usize, v: u64) -> Sheet {
+    if 32 <= i {
+        return s;
+    }
+    match f {
+        Field::Needs => s.needs[i] = low32(v),
+        Field::Conflicts => s.conflicts[i] = low32(v),
+        _ => {}
+    }
+    s
+}
+
 // Puts v at place i of a field of the sheet.
 fn put_in_sheet(mut s: Sheet, f: Field, i: usize, v: u64) -> Sheet
     requires { ⌜ i < 64 ⌝ }
@@ -94,7 +116,10 @@ fn put_in_sheet(mut s: Sheet, f: Field, i: usize, v: u64) -> Sheet
         Field::Kind => s.kinds[i] = low8(v),
         Field::Left => s.left[i] = low8(v),
         Field::Right => s.right[i] = low8(v),
-        _ => {}
+        _ => {
+            let later = put_at_event(s, f, i, v);
+            s = later;
+        }
     }
     s
 }

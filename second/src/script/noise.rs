@@ -79,7 +79,7 @@ const ODD: [&str; 74] = [
     "path 0 - -",
 ];
 
-const ODD_TOO: [&str; 24] = [
+const ODD_TOO: [&str; 26] = [
     "read",
     "write",
     "readx /a",
@@ -98,7 +98,9 @@ const ODD_TOO: [&str; 24] = [
     "poke row 65 0",
     "poke set 64 0",
     "poke kind 64 0",
-    "poke needs 0 0",
+    "poke needs 32 0",
+    "poke conflicts 32 0",
+    "poke need 0 0",
     "poke Total 0 0",
     "poke total 0 18446744073709551616",
     "poke total 4294967296 0",

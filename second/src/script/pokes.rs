@@ -9,6 +9,17 @@ use super::Script;
 
 type Change = (Field, usize, u64);
 
+/// The fields of the loaded sheet.
+const SHEET: [Field; 7] = [
+    Field::Events,
+    Field::Nodes,
+    Field::Kind,
+    Field::Left,
+    Field::Right,
+    Field::Needs,
+    Field::Conflicts,
+];
+
 impl Script {
     pub(super) fn poke_burst(&mut self) {
         self.save_a_way_back();
@@ -46,32 +57,67 @@ impl Script {
 
     /// 20 by each of its causes, and by some that come close to one.
     fn poke_unsound(&mut self) {
+        let changes = match self.random.weighted(&[6, 8, 6]) {
+            0 => self.counts_off(),
+            1 => self.nodes_off(),
+            _ => vec![self.pairs_off()],
+        };
+        self.poke_for_a_while(&changes);
+    }
+
+    /// Counts that are too large, or do not add up.
+    fn counts_off(&mut self) -> Vec<Change> {
         let state = self.monitor.snapshot();
-        let nodes = state.tables.nodes.clamp(1, 64) as usize;
-        let node = self.random.below(nodes);
-        let two = (0..nodes).filter(|&node| matches!(state.tables.kind[node], 4 | 5 | 7));
-        let two = self.random.pick(&two.chain([node]).collect::<Vec<_>>());
-        let events = state.tables.events;
-        let below = self.random.below(events.min(32) as usize) as u64;
-        let wide = self.random.pick(&[33, 64, 255, 1 << 32 | 4, u64::MAX]);
         let total = u64::from(state.total);
-        let changes: Vec<Change> = match self.random.below(14) {
+        match self.random.below(6) {
             0 => vec![(Field::Kept, 0, self.random.pick(&[65, 66, 1 << 32, u64::MAX]))],
             1 => vec![(Field::Kept, 0, 65), (Field::Total, 0, u64::from(state.let_go) + 65)],
             2 => vec![(Field::Kept, 0, state.kept ^ 1)],
             3 => vec![(Field::Total, 0, total.wrapping_add(self.random.pick(&[1, u64::MAX])))],
             4 => vec![(Field::LetGo, 0, self.random.pick(&[total + 1, u64::MAX, 1 << 31]))],
-            5 => vec![(Field::LetGo, 0, u64::MAX), (Field::Kept, 0, 1), (Field::Total, 0, 0)],
-            6 => vec![(Field::Events, 0, self.random.pick(&[0, wide]))],
-            7 => vec![(Field::Events, 0, below)],
-            8 => vec![(Field::Nodes, 0, self.random.pick(&[0, 65, 1 << 32 | 1, u64::MAX]))],
-            9 => vec![(Field::Kind, node, self.random.pick(&[8, 9, 128, 255, 256 + 8]))],
-            10 => vec![(Field::Left, node, self.random.pick(&[node as u64, 255, events, 300]))],
-            11 => vec![(Field::Right, two, self.random.pick(&[two as u64, 63, 64, 255]))],
-            12 => vec![(Field::Kind, node, self.random.below(8) as u64)],
+            _ => vec![(Field::LetGo, 0, u64::MAX), (Field::Kept, 0, 1), (Field::Total, 0, 0)],
+        }
+    }
+
+    /// Numbers of events and nodes, kinds and operands.
+    fn nodes_off(&mut self) -> Vec<Change> {
+        let tables = self.monitor.tables().clone();
+        let nodes = tables.nodes.clamp(1, 64) as usize;
+        let node = self.random.below(nodes);
+        let two = (0..nodes).filter(|&node| matches!(tables.kind[node], 4 | 5 | 7));
+        let two = self.random.pick(&two.chain([node]).collect::<Vec<_>>());
+        let events = tables.events;
+        let below = self.random.below(events.min(32) as usize) as u64;
+        let wide = self.random.pick(&[33, 64, 255, 1 << 32 | 4, u64::MAX]);
+        match self.random.below(8) {
+            0 => vec![(Field::Events, 0, self.random.pick(&[0, wide]))],
+            1 => vec![(Field::Events, 0, below)],
+            2 => vec![(Field::Nodes, 0, self.random.pick(&[0, 65, 1 << 32 | 1, u64::MAX]))],
+            3 => vec![(Field::Kind, node, self.random.pick(&[8, 9, 128, 255, 256 + 8]))],
+            4 => vec![(Field::Left, node, self.random.pick(&[node as u64, 255, events, 300]))],
+            5 => vec![(Field::Right, two, self.random.pick(&[two as u64, 63, 64, 255]))],
+            6 => vec![(Field::Kind, node, self.random.below(8) as u64)],
             _ => vec![(Field::Nodes, 0, self.random.between(nodes, 64) as u64)],
-        };
-        self.poke_for_a_while(&changes);
+        }
+    }
+
+    /// A need that is not below its event, a conflict outside the sheet or of
+    /// an event with itself; now and then one that is harmless.
+    fn pairs_off(&mut self) -> Change {
+        let tables = self.monitor.tables();
+        let events = tables.events.clamp(1, 32) as usize;
+        let event = self.random.below(events);
+        let needs = u64::from(tables.needs[event]);
+        let conflicts = u64::from(tables.conflicts[event]);
+        match self.random.below(7) {
+            0 => (Field::Needs, event, needs | 1 << event),
+            1 => (Field::Needs, event, needs | 1 << self.random.between(event, 31)),
+            2 => (Field::Conflicts, event, conflicts | 1 << event),
+            3 => (Field::Conflicts, event, conflicts | 1 << events.min(31)),
+            4 => (Field::Conflicts, event, conflicts | 1 << self.random.between(events, 32)),
+            5 => (Field::Needs, self.random.below(32), self.random.word()),
+            _ => (Field::Conflicts, self.random.below(32), self.random.word()),
+        }
     }
 
     /// Sets, rows and counts that 20 has nothing against.
@@ -120,9 +166,15 @@ impl Script {
         }
     }
 
+    fn poke_gap(&mut self) {
+        let events = self.monitor.tables().events.clamp(1, 32) as usize;
+        let event = self.random.below(events);
+        self.poke_gap_for(event);
+    }
+
     /// A set that lacks one thing that an event needs, over a chain perhaps,
     /// or holds what it conflicts with, or the event itself; and the event.
-    fn poke_gap(&mut self) {
+    fn poke_gap_for(&mut self, event: usize) {
         let Some((let_go, kept)) = self.monitor.window() else {
             return;
         };
@@ -132,7 +184,6 @@ impl Script {
             return;
         }
         let tables = self.monitor.tables();
-        let event = self.random.below(tables.events as usize);
         let (needs, conflicts) = (tables.needs[event], tables.conflicts[event]);
         let missing: Vec<u32> = (0..32).filter(|&cause| needs >> cause & 1 == 1).collect();
         let set = match self.random.below(5) {
@@ -213,6 +264,20 @@ impl Script {
 
     /// Another sheet under the same sessions, sound most of the time.
     fn poke_sheet(&mut self) {
+        match self.random.below(2) {
+            0 => self.poke_nodes(),
+            _ => self.poke_pairs(),
+        }
+        for _ in 0..self.random.between(2, 7) {
+            self.step();
+        }
+        if self.monitor.window().is_none() {
+            self.mend();
+        }
+    }
+
+    /// Other numbers of events and nodes, and other nodes.
+    fn poke_nodes(&mut self) {
         let tables = self.monitor.tables().clone();
         let nodes = tables.nodes.clamp(1, 64) as usize;
         let place = self.random.below(nodes);
@@ -240,11 +305,37 @@ impl Script {
                 self.poke((Field::Right, place, u64::from(node.right)));
             }
         }
-        for _ in 0..self.random.between(2, 7) {
-            self.step();
+    }
+
+    /// Other needs and conflicts that 20 has nothing against: fewer, more, not
+    /// closed over chains, on one side only; and the events that they touch.
+    fn poke_pairs(&mut self) {
+        let tables = self.monitor.tables().clone();
+        let events = tables.events.clamp(1, 32) as usize;
+        let (event, other) = (self.random.below(events), self.random.below(events));
+        let word = self.random.word();
+        let lower = (1u64 << event) - 1;
+        let others = ((1u64 << events) - 1) & !(1 << event);
+        let needs = u64::from(tables.needs[event]);
+        let conflicts = u64::from(tables.conflicts[event]);
+        let changes: Vec<Change> = match self.random.below(8) {
+            0 => vec![(Field::Needs, event, 0)],
+            1 => vec![(Field::Needs, event, needs & word)],
+            2 => vec![(Field::Needs, event, word & lower)],
+            3 => vec![(Field::Needs, event, needs | 1 << other & lower)],
+            4 => vec![(Field::Conflicts, event, conflicts & word)],
+            5 => vec![(Field::Conflicts, event, conflicts | 1 << other & others)],
+            6 => vec![(Field::Conflicts, event, 0), (Field::Conflicts, other, 0)],
+            _ => {
+                let field = self.random.pick(&[Field::Needs, Field::Conflicts]);
+                vec![(field, self.random.between(events.min(31), 31), word)]
+            }
+        };
+        for &change in &changes {
+            self.poke(change);
         }
-        if self.monitor.window().is_none() {
-            self.mend();
+        for aim in [event, other] {
+            self.poke_gap_for(aim);
         }
     }
 
@@ -267,7 +358,7 @@ impl Script {
         let state = self.monitor.snapshot();
         let mut loaded = state.clone();
         loaded.tables = self.monitor.loaded().clone();
-        for field in [Field::Events, Field::Nodes, Field::Kind, Field::Left, Field::Right] {
+        for field in SHEET {
             for place in 0..field.places() {
                 let value = field.get(&loaded, place);
                 if field.get(&state, place) != value {
@@ -293,6 +384,9 @@ impl Script {
             self.poke((Field::Kind, place, u64::from(node.kind)));
             self.poke((Field::Left, place, u64::from(node.left)));
             self.poke((Field::Right, place, u64::from(node.right)));
+        }
+        for _ in 0..self.random.below(3) {
+            self.poke_pairs();
         }
         for _ in 0..self.random.between(5, 20) {
             self.step();
