@@ -1,5 +1,4 @@
 // Puts a number into the stored state, whatever comes of it: this is how states that no call made are reached.
-ghost use Prim.Native.Nat.{_<_};
 use monitor::Monitor;
 use sheet::Sheet;
 use text::Number;
@@ -74,13 +73,14 @@ fn field_of_sheet(word: &[u8]) -> Field {
     Field::Unknown
 }
 
-// How many places a field has. Behind the 64 rows of the kept sessions stands the row that is carried.
-fn places(f: Field) -> u32 {
+// How many places a field has. Behind the rows of the kept sessions stands the row that is carried.
+fn places(f: Field) -> usize {
     match f {
         Field::Total | Field::LetGo | Field::Kept | Field::Events | Field::Nodes => 1,
-        Field::Row => 65,
-        Field::Set | Field::Kind | Field::Left | Field::Right => 64,
-        Field::Needs | Field::Conflicts => 32,
+        Field::Row => limits::KEPT + 1,
+        Field::Set => limits::KEPT,
+        Field::Kind | Field::Left | Field::Right => limits::NODES,
+        Field::Needs | Field::Conflicts => limits::EVENTS,
         Field::Unknown => 0,
     }
 }
@@ -93,9 +93,9 @@ fn low8(v: u64) -> u8 {
     (v % 256) as u8
 }
 
-// Puts v at event i of what the sheet's events need or conflict with; there are 32.
+// Puts v at event i of what the sheet's events need or conflict with.
 fn put_at_event(mut s: Sheet, f: Field, i: usize, v: u64) -> Sheet {
-    if 32 <= i {
+    if limits::EVENTS <= i {
         return s;
     }
     match f {
@@ -106,16 +106,29 @@ fn put_at_event(mut s: Sheet, f: Field, i: usize, v: u64) -> Sheet {
     s
 }
 
-// Puts v at place i of a field of the sheet.
-fn put_in_sheet(mut s: Sheet, f: Field, i: usize, v: u64) -> Sheet
-    requires { ⌜ i < 64 ⌝ }
-{
+// Puts v at node i of the sheet.
+fn put_at_node(mut s: Sheet, f: Field, i: usize, v: u64) -> Sheet {
+    if limits::NODES <= i {
+        return s;
+    }
     match f {
-        Field::Events => s.events = v as usize,
-        Field::Nodes => s.nodes = v as usize,
         Field::Kind => s.kinds[i] = low8(v),
         Field::Left => s.left[i] = low8(v),
         Field::Right => s.right[i] = low8(v),
+        _ => {}
+    }
+    s
+}
+
+// Puts v at place i of a field of the sheet.
+fn put_in_sheet(mut s: Sheet, f: Field, i: usize, v: u64) -> Sheet {
+    match f {
+        Field::Events => s.events = v as usize,
+        Field::Nodes => s.nodes = v as usize,
+        Field::Kind | Field::Left | Field::Right => {
+            let later = put_at_node(s, f, i, v);
+            s = later;
+        }
         _ => {
             let later = put_at_event(s, f, i, v);
             s = later;
@@ -124,18 +137,30 @@ fn put_in_sheet(mut s: Sheet, f: Field, i: usize, v: u64) -> Sheet
     s
 }
 
-// Puts v at place i of a field; only the row has a place 64.
-fn put(mut m: Monitor, f: Field, i: usize, v: u64) -> Monitor {
-    if 64 <= i {
+// Puts v at place i of the kept sessions; behind the last of them stands the row that is carried.
+fn put_at_session(mut m: Monitor, f: Field, i: usize, v: u64) -> Monitor {
+    if limits::KEPT <= i {
         m.carried = v;
         return m;
     }
     match f {
+        Field::Row => m.rows[i] = v,
+        Field::Set => m.sets[i] = low32(v),
+        _ => {}
+    }
+    m
+}
+
+// Puts v at place i of a field.
+fn put(mut m: Monitor, f: Field, i: usize, v: u64) -> Monitor {
+    match f {
         Field::Total => m.total = low32(v),
         Field::LetGo => m.gone = low32(v),
         Field::Kept => m.kept = v as usize,
-        Field::Row => m.rows[i] = v,
-        Field::Set => m.sets[i] = low32(v),
+        Field::Row | Field::Set => {
+            let later = put_at_session(m, f, i, v);
+            m = later;
+        }
         _ => {
             let s = m.sheet;
             let later = put_in_sheet(s, f, i, v);
@@ -159,11 +184,12 @@ pub fn poke(m: Monitor, words: &[u8]) -> Poked {
         return wrong;
     };
     let f = field_of(text::word(words));
-    if places(f) <= i {
+    let place = i as usize;
+    if places(f) <= place {
         return wrong;
     }
     Poked {
-        monitor: put(m, f, i as usize, v),
+        monitor: put(m, f, place, v),
         known: true,
     }
 }
