@@ -9,13 +9,9 @@ pub fn unknown(out: &mut Buffer, at: &mut usize) {
     buffer::bytes(out, at, b"?\n");
 }
 
-fn wide(n: u32) -> u64 {
-    n as u64
-}
-
 fn refused(out: &mut Buffer, at: &mut usize, number: u32) {
     buffer::byte(out, at, b'r');
-    buffer::decimal(out, at, wide(number));
+    buffer::decimal(out, at, bits::wide(number));
 }
 
 // A refusal and nothing else.
@@ -45,7 +41,7 @@ fn told(out: &mut Buffer, at: &mut usize, number: u32, letter: u8, n: u64) {
 
 // The session begun.
 pub fn session(out: &mut Buffer, at: &mut usize, number: u32, session: u32) {
-    told(out, at, number, b's', wide(session));
+    told(out, at, number, b's', bits::wide(session));
     buffer::byte(out, at, b'\n');
 }
 
@@ -99,9 +95,9 @@ pub fn counts(out: &mut Buffer, at: &mut usize, number: u32, total: u32, gone: u
         refusal(out, at, number);
         return;
     }
-    buffer::decimal(out, at, wide(total));
+    buffer::decimal(out, at, bits::wide(total));
     buffer::byte(out, at, b' ');
-    buffer::decimal(out, at, wide(gone));
+    buffer::decimal(out, at, bits::wide(gone));
     buffer::byte(out, at, b' ');
     buffer::decimal(out, at, kept as u64);
     buffer::byte(out, at, b'\n');

@@ -13,7 +13,7 @@ use Rattle.meaning.specs.Limits.{rootLeast, ofRoot, ofNode}
 use Rattle.meaning.specs.Records.{marked, kindOf}
 use Rattle.meaning.specs.Sheet.{Known, kinds, kindAt, knownKind, nodeFits, payload, behind, whole, fits, framed, itemOf, itemAt}
 use Rattle.laws.proofs.Quantifiers.{and-left, and-right}
-use Rattle.laws.proofs.Accepted.{framed-known}
+use Rattle.laws.proofs.ByKind.{framed-known}
 use Rattle.records.specs.declared.Frame.{Frame}
 use Rattle.records.specs.Frames.{frameAt}
 use Rattle.faults.specs.Tallies.{Inside, payloadIn, itemIn}

@@ -12,7 +12,7 @@ use Rattle.meaning.specs.Sheet.{Known, Kind, kinds, kindAt, kindNumber, rootIn,
 use Rattle.records.specs.declared.Frame.{Frame}
 use Rattle.faults.specs.declared.Tally.{Tally}
 use Rattle.faults.specs.Tallies.{payloadIn, itemIn, tallied}
-use Rattle.laws.proofs.Accepted.{known-cases, kind-of-item}
+use Rattle.laws.proofs.ByKind.{known-cases, kind-of-item}
 
 no-kind : Kind
 no-kind = record { least = 0; greatest = 0; most = 0 }

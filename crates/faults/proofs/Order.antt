@@ -14,7 +14,7 @@ use borrow.Author.Tests.{lt-ltb, le-ltb, eq-eqb, ne-eqb}
 use Rattle.meaning.specs.Limits.{ofCount, ofRoot, ofNode}
 use Rattle.meaning.specs.Lists.{isEmpty}
 use Rattle.meaning.specs.Sheet.{Known, rootIn, itemOf, keyOf, ascends, disordered}
-use Rattle.laws.proofs.Accepted.{known-cases, kind-of-item}
+use Rattle.laws.proofs.ByKind.{known-cases, kind-of-item}
 
 -- the order of two first bytes, where it decides and where it does not
 module _ (x y : ℕ) (xs ys : List ℕ) where

@@ -9,7 +9,7 @@ use lib.ListN.{getD}
 use Rattle.meaning.specs.Limits.{eventsMost, ofCount, ofRoot, ofNode}
 use Rattle.meaning.specs.Rules.{nodeInRange}
 use Rattle.meaning.specs.Sheet.{Known, nodeOf, rootIn, nodeIn, itemOf, knownAccess, pairInRange, inRange}
-use Rattle.laws.proofs.Accepted.{known-cases}
+use Rattle.laws.proofs.ByKind.{known-cases}
 
 module _ (events earlier : ℕ) (p : List ℕ) where
   pub range-count : (k : ℕ) → k ≡ ofCount → inRange events earlier (itemOf k p) ≡ (leb 1 (getD p 0 0) && leb (getD p 0 0) eventsMost)

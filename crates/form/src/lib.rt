@@ -3,13 +3,13 @@
 ghost use mathlib.Core.Path.{_≡_};
 ghost use Prim.Native.Nat.{_+_, _≤_};
 ghost use lib.ListN.{length, drop};
-ghost use Rattle.meaning.specs.Lists.{contains, same as sameBytes};
+ghost use Rattle.meaning.specs.Lists.{contains as containsByte, same as sameBytes};
 ghost use Rattle.meaning.specs.Path.{segmentOk, wellFormed};
 ghost use Rattle.form.specs.Segments.{upToSlash};
 
 // Whether the byte b is in s.
-fn has(s: &[u8], b: u8) -> bool
-    ensures { λ r. ⌜ r ≡ contains b (now (s .entry)) ⌝ }
+fn contains(s: &[u8], b: u8) -> bool
+    ensures { λ r. ⌜ r ≡ containsByte b (now (s .entry)) ⌝ }
 {
     let mut i = 0;
     while i < s.len() {
@@ -42,7 +42,7 @@ fn same(s: &[u8], t: &[u8]) -> bool
 fn segment_ok(s: &[u8]) -> bool
     ensures { λ r. ⌜ r ≡ segmentOk (now (s .entry)) ⌝ }
 {
-    (s.len() != 0) & !same(s, b".") & !same(s, b"..") & !has(s, 0)
+    (s.len() != 0) & !same(s, b".") & !same(s, b"..") & !contains(s, 0)
 }
 
 // Where the segment that starts at a ends: at the next "/", or where p does.

@@ -14,7 +14,7 @@ use Rattle.meaning.specs.Rules.{Rules}
 use Rattle.meaning.specs.Events.{allowed}
 use Rattle.meaning.specs.Limits.{keptMost, totalMost}
 use Rattle.meaning.specs.History.{begun, refused, After, orRefused, letGo, keptOf, beginFault, begin}
-use Rattle.laws.proofs.Accepted.{passes}
+use Rattle.laws.proofs.Lawful.{passes}
 use Rattle.sheet.specs.declared.Sheet.{Sheet}
 use Rattle.sheet.specs.Sound.{rulesIn}
 use Rattle.monitor.specs.declared.Begun.{Begun}

@@ -17,7 +17,7 @@ use Rattle.meaning.specs.Limits.{keptMost}
 use Rattle.meaning.specs.History.{recorded, refused, After, orRefused, beginFault, recordFault, recordIn, withSession}
 use Rattle.meaning.specs.History
 use Rattle.laws.proofs.Quantifiers.{or-left, or-right, or-false}
-use Rattle.laws.proofs.Accepted.{passes}
+use Rattle.laws.proofs.Lawful.{passes}
 use Rattle.history.specs.Sequences.{Call, begin, check, counts, anew, recording, saving, restoring, Heard, Past, follows, afterSaving, Returns, Goes}
 use Rattle.history.proofs.Added.{mem-added}
 

@@ -19,7 +19,8 @@ use Rattle.meaning.specs.Sheet.{Sheet as Lists, Reading, sheetOf, rulesOf}
 use Rattle.laws.proofs.Quantifiers.{or-cases, or-comm, and-left, and-right, every-each, every-if}
 use Rattle.laws.proofs.SetLaws.{mem-zero, mem-setOf, setOf-lt, set-ext}
 use Rattle.laws.proofs.Chains.{some-pair-where, chain-sound, chain-ends}
-use Rattle.laws.proofs.Accepted.{Lawful, few-nodes, accepted}
+use Rattle.laws.proofs.Accepted.{accepted}
+use Rattle.laws.proofs.Lawful.{Lawful, few-nodes}
 use Rattle.sheet.specs.declared.Sheet.{Sheet}
 use Rattle.sheet.specs.Loads.{tableOf, kindOfNode, leftOf, rightOf, stored}
 use Rattle.sheet.specs.Sound.{soundEvent, soundNode, sound, rulesIn}

@@ -15,7 +15,7 @@ use Rattle.meaning.specs.Events.{possible, supported, allowed, closed}
 use Rattle.meaning.specs.Policy.{session}
 use Rattle.meaning.specs.History.{recorded, refused, After, orRefused, letGo, withSession, recordFault, recordIn}
 use Rattle.laws.proofs.Quantifiers.{or-false}
-use Rattle.laws.proofs.Accepted.{passes}
+use Rattle.laws.proofs.Lawful.{passes}
 use Rattle.sheet.specs.declared.Sheet.{Sheet}
 use Rattle.sheet.specs.Sound.{rulesIn}
 use Rattle.monitor.specs.declared.Recorded.{Recorded}

@@ -4,6 +4,9 @@ pub mod Since
 pub mod Rows
 pub mod Chains
 pub mod Growth
+pub mod Ordered
+pub mod ByKind
+pub mod Lawful
 pub mod Accepted
 pub mod Under
 pub mod Paths

@@ -4,13 +4,15 @@ use Prim.Native.Nat.{ℕ, zero, suc, _+_, _-_, _*_, _/_, _%_, _^_, _≤_, _<_, m
 use mathlib.Core.Path.{_≡_, refl, sym, ap, _∙_}
 use mathlib.Core.Bool.{Bool, true, false, false≢true, cond, _||_}
 use mathlib.Core.Logic.{⊎-elim}
-use native.Mathlib.Nat.{not-suc-le-zero, le-of-suc-le-suc, eq-or-lt-of-le, lt-of-lt-of-le, pow-suc, div-eq-of-lt, add-mul-div-right, add-mul-mod-self-right, add-comm, one-mul, add-zero, zero-add, mod-one, mod-lt, mod-eq-of-lt}
+use native.Mathlib.Nat.{not-suc-le-zero, le-of-suc-le-suc, eq-or-lt-of-le, lt-of-lt-of-le, pow-suc, div-eq-of-lt, add-mul-div-right}
+use native.Mathlib.Nat.{add-mul-mod-self-right, add-comm, one-mul, add-zero, zero-add, mod-one, mod-lt, mod-eq-of-lt}
 use native.Mathlib.Numerals.{one-add}
 use native.Mathlib.Omega.{arith}
 use lib.Dec.{eqb, ltb}
 use borrow.Author.Tests.{ltb-true, ltb-false, eqb-true, eq-eqb}
 use lib.Pow.{pow-pos, pow-mono, pow-lt, pow-add, high, mod-pow-add}
 use lib.Bits.{bitOr, or-shr, or-step}
+use Rattle.meaning.specs.Limits.{setBits}
 use Rattle.meaning.specs.Sets.{mem, setOf}
 
 -- nothing is in the empty set
@@ -147,8 +149,8 @@ setOf-bound (suc n) e p h = go (p n) refl (setOf-bound n e p (λ i l t. h i (ome
         lt-of-lt-of-le (grown-lt n (setOf n p) (setOf-lt n p) true) (pow-mono l)
     go false q ih = rw add-zero ih
 
--- SETS IN 32 BITS
+-- SETS IN A WORD
 
--- a bit shifted into 32 bits
-pub one-shl : (a : ℕ) → a < 32 → 1 * 2 ^ a % 2 ^ 32 ≡ 2 ^ a
-one-shl a h = ap (λ (x : ℕ). x % 2 ^ 32) (one-mul (2 ^ a)) ∙ mod-eq-of-lt (pow-lt h)
+-- a bit shifted into its place
+pub one-shl : (a : ℕ) → a < setBits → 1 * 2 ^ a % 2 ^ setBits ≡ 2 ^ a
+one-shl a h = ap (λ (x : ℕ). x % 2 ^ setBits) (one-mul (2 ^ a)) ∙ mod-eq-of-lt (pow-lt h)

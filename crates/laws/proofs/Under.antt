@@ -20,7 +20,8 @@ use Rattle.meaning.specs.Sheet.{Root, Sheet, knownAccess, sheetOf}
 use Rattle.meaning.specs.Question.{Match, under, nowhere, longer, better, longest, Found, found, pathFault, pathIn, askedOf, question}
 use Rattle.laws.specs.Demand2.{segmentsOf, LiesUnder}
 use Rattle.laws.proofs.Quantifiers.{and-left, and-right, and-both}
-use Rattle.laws.proofs.Accepted.{passes, accepted}
+use Rattle.laws.proofs.Accepted.{accepted}
+use Rattle.laws.proofs.Lawful.{passes}
 
 -- SEGMENTS: the segments of a path are those of its root, and more
 

@@ -110,6 +110,9 @@ sessionLength = 7
 
 -- THE MACHINE
 
--- bits of the word that a row is kept in
+-- bits of the word that a row is kept in, and of that for a set
 abbrev pub wordBits : ℕ
 wordBits = 64
+
+abbrev pub setBits : ℕ
+setBits = 32

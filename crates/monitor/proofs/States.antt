@@ -8,7 +8,7 @@ use lib.Dec.{eqb, leb, ltb}
 use lib.ListN.{getD}
 use borrow.Author.Tests.{ltb-false, leb-false, eqb-true, not-false}
 use Rattle.laws.proofs.Quantifiers.{or-false}
-use Rattle.laws.proofs.Accepted.{passes}
+use Rattle.laws.proofs.Lawful.{passes}
 use Rattle.rows.proofs.Arms.{few-nodes}
 use Rattle.meaning.specs.Limits.{nodesMost, keptMost, totalMost}
 use Rattle.meaning.specs.Sets.{apart, within}

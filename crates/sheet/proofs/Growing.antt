@@ -23,7 +23,9 @@ use Rattle.laws.proofs.Quantifiers.{and-left, and-right}
 use Rattle.laws.proofs.SetLaws.{setOf-ext}
 use Rattle.laws.proofs.Growth.{kept-pair, needed-here, needed-other, conflict-low, conflict-high, conflict-other}
 use Rattle.laws.proofs.Chains.{Listed, Upward}
-use Rattle.laws.proofs.Accepted.{passed, Lawful, lawful-after, first-only, known-cases}
+use Rattle.laws.proofs.ByKind.{known-cases}
+use Rattle.laws.proofs.Lawful.{passed, Lawful, lawful-after}
+use Rattle.laws.proofs.Ordered.{first-only}
 use Rattle.sheet.specs.declared.Sheet.{Sheet}
 use Rattle.sheet.specs.Loads.{tableOf, kindOfNode, leftOf, rightOf, stored}
 use Rattle.sheet.specs.ByRecord.{withCause, withConflict, putRecord}

@@ -17,7 +17,9 @@ use Rattle.meaning.specs.Limits.{sheetMost}
 use Rattle.meaning.specs.Records.{kindOf}
 use Rattle.meaning.specs.Sheet.{Item, Reading, nothingRead, payload, behind, framed, itemOf, itemAt, keyOf, noted, afterRecord, tally, nodeFits, itemFault, fault, walk, withNodes, sheetOf}
 use Rattle.meaning.specs.Sheet
-use Rattle.laws.proofs.Accepted.{passed, Lawful, lawful-start, lawful-after, seen-after, walk-end}
+use Rattle.laws.proofs.Accepted.{walk-end}
+use Rattle.laws.proofs.ByKind.{seen-after}
+use Rattle.laws.proofs.Lawful.{passed, Lawful, lawful-start, lawful-after}
 use Rattle.records.specs.declared.Frame.{Frame}
 use Rattle.records.specs.Frames.{frameAt}
 use Rattle.faults.specs.declared.Tally.{Tally}

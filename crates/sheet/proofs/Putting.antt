@@ -11,7 +11,8 @@ use borrow.Author.Tests.{ltb-true, leb-false}
 use Rattle.meaning.specs.Limits.{eventsMost, nodesMost, sheetMost, ofCause, ofConflict, ofNode}
 use Rattle.meaning.specs.Sheet.{Known, itemOf, Reading, kinds, kindAt, kindNumber, tally, soFar, pairInRange, inRange, itemFault}
 use Rattle.laws.proofs.Quantifiers.{and-left, and-right}
-use Rattle.laws.proofs.Accepted.{passed, Lawful, known-cases}
+use Rattle.laws.proofs.ByKind.{known-cases}
+use Rattle.laws.proofs.Lawful.{passed, Lawful}
 use Rattle.sheet.specs.ByRecord.{Fitting}
 
 -- no kind has more records than a sheet may have bytes

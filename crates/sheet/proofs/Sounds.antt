@@ -20,7 +20,8 @@ use Rattle.meaning.specs.Sheet
 use Rattle.laws.proofs.Quantifiers.{or-cases, and-left, and-right, every-if}
 use Rattle.laws.proofs.SetLaws.{mem-of, setOf-lt, setOf-bound}
 use Rattle.laws.proofs.Chains.{some-pair-where, chain-sound, chain-ends}
-use Rattle.laws.proofs.Accepted.{Lawful, few-nodes, accepted, accepted-walk}
+use Rattle.laws.proofs.Accepted.{accepted, accepted-walk}
+use Rattle.laws.proofs.Lawful.{Lawful, few-nodes}
 use Rattle.sheet.specs.Loads.{kindOfNode, leftOf, rightOf, stored}
 use Rattle.sheet.specs.Sound.{soundEvent, soundNode, sound}
 use Rattle.sheet.proofs.Tables.{table-at}

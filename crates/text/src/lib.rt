@@ -1,6 +1,6 @@
 // One line of text, taken apart: its words, decimal numbers, and bytes in hexadecimal. Every function takes any text at all and says what it finds, so
 // that a caller has nothing to show first.
-ghost use Prim.Native.Nat.{_<_, _≤_};
+ghost use Prim.Native.Nat.{_≤_};
 
 // What a text says in hexadecimal: so many bytes, or nothing that can be read.
 pub enum Hex {
@@ -103,12 +103,6 @@ pub fn argument(s: &[u8]) -> &[u8] {
     &s[0..0]
 }
 
-fn wide(c: u8) -> u64
-    ensures { λ r. ⌜ r < 256 ⌝ }
-{
-    c as u64
-}
-
 // n with the decimal digit c behind it, if c is one and the number fits.
 fn with_digit(n: u64, c: u8) -> Number {
     if c < b'0' {
@@ -117,7 +111,7 @@ fn with_digit(n: u64, c: u8) -> Number {
     if b'9' < c {
         return Number::Wrong;
     }
-    let d = wide(c - b'0');
+    let d = bits::byte(c - b'0');
     if 1844674407370955161 < n {
         return Number::Wrong;
     }

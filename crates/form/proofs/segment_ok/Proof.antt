@@ -18,12 +18,12 @@ slice-aggregate-same-2 c = search needs
 same-requires-2 : tie.Need-same-requires-2
 same-requires-2 c κs = search needs
 
-has-requires : tie.Need-has-requires
-has-requires c κs = search needs
+contains-requires : tie.Need-contains-requires
+contains-requires c κs = search needs
 
 returns : tie.Need-returns
 unfolding segmentOk
-returns c = rw (empty-length, c .has .ensures, c .before .same2 .ensures, c .before .before .before .same .ensures)
+returns c = rw (empty-length, c .contains .ensures, c .before .same2 .ensures, c .before .before .before .same .ensures)
 
 pub segment-ok-spec : {M : Type 1} → statement M
 segment-ok-spec =
@@ -33,5 +33,5 @@ segment-ok-spec =
     same-requires
     slice-aggregate-same-2
     same-requires-2
-    has-requires
+    contains-requires
     returns)

@@ -1,4 +1,4 @@
--- `form::has` meets its contract. The loop's invariant: what is left of the slice has the byte exactly if all of it has.
+-- `form::contains` meets its contract. The loop's invariant: what is left of the slice has the byte exactly if all of it has.
 -- Assumes nothing.
 use Prim.Native.Nat.{_≤_, _-_}
 use mathlib.Core.Path.{_≡_, sym, _∙_}
@@ -6,8 +6,8 @@ use lib.ListN.{length, drop}
 use borrow.Author.Needs.{needs}
 use Rattle.meaning.specs.Lists.{contains}
 use Rattle.form.proofs.Cuts.{contains-here, contains-later, contains-nowhere}
-use Rattle.form.proofs.has.Statement.{statement}
-use Rattle.form.proofs.has.Tie as tie
+use Rattle.form.proofs.contains.Statement.{statement}
+use Rattle.form.proofs.contains.Tie as tie
 
 abbrev Inv-loop : tie.InvT-loop
 Inv-loop s b i₀ i = (i ≤ length s) × (contains b s ≡ contains b (drop i s))
@@ -36,8 +36,8 @@ loop-again c = (search needs, c .before .before .before .loop .inv .1 ∙ contai
 returns-2 : tie.Need-returns-2 Inv-loop μ-loop
 returns-2 c = sym (c .before .loop .inv .1 ∙ contains-nowhere _ _ _ (c .loop-test .left))
 
-pub has-spec : {M : Type 1} → statement M
-has-spec =
+pub contains-spec : {M : Type 1} → statement M
+contains-spec =
     tie.close
     (tie.spec
     Inv-loop
