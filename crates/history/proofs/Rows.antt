@@ -11,8 +11,8 @@ use lib.Seq.{getD-at, set-at, drop-at, take-take, append-snoc}
 use native.Mathlib.Numerals.{add-one}
 use Rattle.meaning.specs.Rules.{Rules, inOrder}
 use Rattle.meaning.specs.Policy.{session, row}
-use Rattle.meaning.specs.Steps.{nextRow, rowAfter}
-use Rattle.laws.proofs.Rows.{row-step, row-fold}
+use Rattle.meaning.specs.Steps.{nextRow}
+use Rattle.laws.proofs.Rows.{rowAfter, row-step, row-fold}
 use Rattle.window.specs.Kept.{filled, rowBefore, refreshed}
 use Rattle.history.specs.Made.{rowsOf}
 use Rattle.window.proofs.Filled.{filled-at, filled-set}

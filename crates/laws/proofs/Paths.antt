@@ -14,8 +14,8 @@ use Rattle.meaning.specs.Limits.{pathMost}
 use Rattle.meaning.specs.Path.{wellFormed, restAfter}
 use Rattle.meaning.specs.Refusals.{Answer, good, refused}
 use Rattle.meaning.specs.Sheet.{Root, Sheet, knownAccess, sheetOf}
-use Rattle.meaning.specs.Question.{Match, under, nowhere, longest, Found, found, pathFault, pathIn, question}
-use Rattle.laws.specs.Demand2.{Above, IsEvent, Decided, firstLine, Demand2}
+use Rattle.meaning.specs.Question.{Match, under, nowhere, longest, Found, found, pathFault, pathIn, askedOf, question}
+use Rattle.laws.specs.Demand2.{Above, IsEvent, Decided, firstLine, OfSheet, Demand2}
 use Rattle.laws.proofs.Quantifiers.{or-false}
 use Rattle.laws.proofs.Under.{Covering, AtLeast, longest-is, covers-front, covers-whole, under-covers, Worth, clear, root-formed, root-once, asks, worth}
 
@@ -132,9 +132,12 @@ module _ (bytes : List ℕ) (sheet : Sheet) (loads : sheetOf bytes ≡ good shee
 
 -- What demand 2 says of paths holds.
 pub demand-2 : Demand2
-unfolding Demand2
-demand-2 bytes sheet loads access path = (
-  (λ (f, e). is-event bytes sheet loads access path f e, is-answered bytes sheet loads access path),
-  is-decided bytes sheet loads access path,
-  is-refused bytes sheet loads access path,
+unfolding Demand2 OfSheet question askedOf
+demand-2 bytes = (
+  λ sheet loads access path. (
+    (λ (f, e). is-event bytes sheet loads access path f e, is-answered bytes sheet loads access path),
+    is-decided bytes sheet loads access path,
+    is-refused bytes sheet loads access path,
+  ),
+  λ n e access path. ap (λ a. askedOf a access path) e,
 )

@@ -17,7 +17,7 @@ use Rattle.meaning.specs.Sets.{some, mem, setOf}
 use Rattle.meaning.specs.Rules.{Node, Rules, nodeInRange, inOrder}
 use Rattle.meaning.specs.Policy.{Formula, session, holds, formulaOf, formulas, nodeHolds, row}
 use Rattle.meaning.specs.Policy
-use Rattle.meaning.specs.Steps.{nodeBit, rowTo, nextRow, rowAfter}
+use Rattle.meaning.specs.Steps.{nodeBit, rowTo, nextRow}
 use Rattle.laws.proofs.Quantifiers.{and-left, and-right, every-each}
 use Rattle.laws.proofs.SetLaws.{mem-zero, mem-setOf}
 use Rattle.laws.proofs.Since.{since-step}
@@ -117,6 +117,11 @@ module _ (r : Rules) where
       pub row-step : row r h (suc i) ≡ nextRow r (row r h i) (session h (suc i))
       unfolding row nextRow
       row-step = row-to (r .nodes) (omega arith)
+
+-- the row after some more sessions, oldest first
+unfoldable pub rowAfter : Rules → ℕ → List ℕ → ℕ
+rowAfter r before [] = before
+rowAfter r before (x ∷ xs) = rowAfter r (nextRow r before x) xs
 
 -- A fold may be cut in two.
 pub row-cut : (r : Rules) (before : ℕ) (xs ys : List ℕ) → rowAfter r before (xs ++ ys) ≡ rowAfter r (rowAfter r before xs) ys

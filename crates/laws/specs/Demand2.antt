@@ -59,11 +59,18 @@ firstLine access path =
     else not (wellFormed path) gives 32
     else 33
 
--- THE STATEMENT, of every byte string that loads, every access and every path: it is answered exactly when it is an event; the answer is as the longest
--- root decides; what is no event is refused by the first line that applies
-unfoldable pub Demand2 : Type 0
-Demand2 =
-    (bytes : List ℕ) (sheet : Sheet) → sheetOf bytes ≡ good sheet → (access : ℕ) (path : List ℕ)
+-- of bytes that load, any access and any path: it is answered exactly when it is an event; the answer is as the longest root decides; what is no event is
+-- refused by the first line that applies
+unfoldable pub OfSheet : List ℕ → Sheet → Type 0
+OfSheet bytes sheet =
+    (access : ℕ) (path : List ℕ)
     → (((f : Found) × (question bytes access path ≡ good f)) ↔ IsEvent sheet access path)
     × ((f : Found) → question bytes access path ≡ good f → Decided sheet access path f)
     × (¬ IsEvent sheet access path → question bytes access path ≡ refused (firstLine access path))
+
+-- THE STATEMENT, of every byte string: where it loads, as above; where it does not, every question is refused by the sheet's own number
+unfoldable pub Demand2 : Type 0
+Demand2 =
+    (bytes : List ℕ)
+    → ((sheet : Sheet) → sheetOf bytes ≡ good sheet → OfSheet bytes sheet)
+    × ((n : ℕ) → sheetOf bytes ≡ refused n → (access : ℕ) (path : List ℕ) → question bytes access path ≡ refused n)

@@ -1,4 +1,4 @@
-// The numbers that document 01 sets, each once in the code; `meaning.Limits` has them in the written meaning, and no promise holds unless the two agree.
+// The numbers that document 01 sets, each once in the code; `meaning.Limits` has them in the written meaning (`meaning.Records` the mark), and no promise holds unless the two agree.
 
 // A sheet: so many events, causes, conflicts, roots and nodes at most, and so many bytes.
 pub const EVENTS: usize = 32;

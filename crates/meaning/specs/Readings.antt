@@ -1,4 +1,4 @@
--- BELIEF. Sheets that tell one reading of the paper from another, with the number that each is refused by (0: accepted), as one table and one statement.
+-- BELIEF. Sheets that tell one reading of the paper from another, with the number that each is refused by (0: accepted), as one table and one statement; and, last, the numbers of `Limits` that other definitions imply.
 -- Assumes nothing.
 use Prim.Native.Nat.{ℕ}
 use mathlib.Core.Path.{_≡_, refl}

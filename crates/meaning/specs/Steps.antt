@@ -2,7 +2,6 @@
 -- Assumes nothing.
 use Prim.Native.Nat.{ℕ, zero, suc, _+_, _^_}
 use mathlib.Core.Bool.{Bool, true, not, cond, _&&_, _||_}
-use mathlib.Core.List.{List, [], _∷_}
 use Rattle.meaning.specs.Sets.{mem}
 use Rattle.meaning.specs.Rules.{Node, always, event, possible, neg, both, either, previous, since, Rules}
 use Rattle.meaning.specs.Events
@@ -26,8 +25,3 @@ module _ (r : Rules) (before x : ℕ) where
 
   unfoldable pub nextRow : ℕ
   nextRow = rowTo (r .nodes)
-
--- the row after some more sessions, oldest first
-unfoldable pub rowAfter : Rules → ℕ → List ℕ → ℕ
-rowAfter r before [] = before
-rowAfter r before (x ∷ xs) = rowAfter r (nextRow r before x) xs
