@@ -2,12 +2,14 @@
 // `flush`: so many lines that come at once ask the system only now and then.
 
 // The room for what is to be written.
-pub type Buffer = [u8; 65536];
+pub const ROOM: usize = 65536;
+
+pub type Buffer = [u8; ROOM];
 
 // Adds one byte. A full buffer is written first.
 pub fn byte(out: &mut Buffer, at: &mut usize, b: u8) {
     let n = *at;
-    if n < 65536 {
+    if n < ROOM {
         out[n] = b;
         *at = n + 1;
         return;

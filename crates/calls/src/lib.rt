@@ -69,8 +69,11 @@ fn counts(m: Monitor, out: &mut Buffer, at: &mut usize) -> Monitor {
     a.monitor
 }
 
+// The longest buffer that `save` is lent.
+const LENT: usize = 4096;
+
 // The first n bytes of the buffer for an image.
-fn front(buffer: &[u8; 4096], n: usize) -> &[u8] {
+fn front(buffer: &[u8; LENT], n: usize) -> &[u8] {
     text::front(buffer, n)
 }
 
@@ -80,12 +83,12 @@ fn save(m: Monitor, rest: &[u8], out: &mut Buffer, at: &mut usize) -> Monitor {
         answers::unknown(out, at);
         return m;
     };
-    if 4096 < n {
+    if LENT < n as usize {
         answers::unknown(out, at);
         return m;
     }
     let k = n as usize;
-    let mut buffer = [0xEEu8; 4096];
+    let mut buffer = [0xEEu8; LENT];
     let a = image::save(m, &mut buffer[0..k]);
     answers::image(out, at, a.number, a.length, front(&buffer, k));
     a.monitor
@@ -93,7 +96,7 @@ fn save(m: Monitor, rest: &[u8], out: &mut Buffer, at: &mut usize) -> Monitor {
 
 // restore HEX.
 fn restore(m: Monitor, rest: &[u8], out: &mut Buffer, at: &mut usize) -> Monitor {
-    let mut bytes = [0u8; 8192];
+    let mut bytes = [0u8; text::BYTES];
     let Hex::Bytes(n) = text::hex_into(rest, &mut bytes) else {
         answers::unknown(out, at);
         return m;

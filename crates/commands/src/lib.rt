@@ -8,6 +8,9 @@ const ROOM: usize = 16384;
 
 type Line = [u8; ROOM];
 
+// The input is read in pieces of at most so many bytes.
+const PIECE: usize = 65536;
+
 // Adds the bytes to the line of which n are there, up to the room.
 fn gather(bytes: &[u8], line: &mut Line, n: &mut usize) {
     let mut i = 0;
@@ -63,7 +66,7 @@ fn feed(
 
 // Reads the next piece of the input, and says how many bytes it has: none where the input has ended or cannot be read. What is to be written is written
 // first, since reading may wait: so another program can send a command, read its answer, and only then send the next.
-fn more(piece: &mut [u8; 65536], out: &mut Buffer, at: &mut usize) -> usize {
+fn more(piece: &mut [u8; PIECE], out: &mut Buffer, at: &mut usize) -> usize {
     buffer::flush(out, at);
     let got = libc::read(0, piece);
     io::count(got, piece)
@@ -72,7 +75,7 @@ fn more(piece: &mut [u8; 65536], out: &mut Buffer, at: &mut usize) -> usize {
 // Takes the input piece by piece until there is no more. Nothing says that an input ends, so the turns are counted down from a number that no run
 // uses up.
 fn pieces(
-    piece: &mut [u8; 65536],
+    piece: &mut [u8; PIECE],
     line: &mut Line,
     n: &mut usize,
     out: &mut Buffer,
@@ -92,7 +95,7 @@ fn pieces(
 }
 
 // The whole run, over the buffers that `serve` has.
-fn run(piece: &mut [u8; 65536], line: &mut Line, out: &mut Buffer) {
+fn run(piece: &mut [u8; PIECE], line: &mut Line, out: &mut Buffer) {
     let mut n: usize = 0;
     let mut at: usize = 0;
     let state = pieces(piece, line, &mut n, out, &mut at);
@@ -103,8 +106,8 @@ fn run(piece: &mut [u8; 65536], line: &mut Line, out: &mut Buffer) {
 
 // Answers standard input on standard output.
 pub fn serve() {
-    let mut piece = [0u8; 65536];
-    let mut line = [0u8; 16384];
-    let mut out = [0u8; 65536];
+    let mut piece = [0u8; PIECE];
+    let mut line = [0u8; ROOM];
+    let mut out = [0u8; buffer::ROOM];
     run(&mut piece, &mut line, &mut out);
 }

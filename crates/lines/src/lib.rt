@@ -8,7 +8,7 @@ use text::Number32;
 
 // The bytes of the last sheet and how many there are, accepted or not; and the monitor at hand, all zeros until a sheet was accepted.
 pub struct State {
-    pub sheet: [u8; 8192],
+    pub sheet: [u8; text::BYTES],
     pub len: usize,
     pub monitor: Monitor,
 }
@@ -17,7 +17,7 @@ impl State {
     pub fn new() -> Self {
         let m = Monitor::new(Sheet::empty());
         Self {
-            sheet: [0; 8192],
+            sheet: [0; text::BYTES],
             len: 0,
             monitor: m,
         }
@@ -47,7 +47,7 @@ pub fn run(mut state: State, line: &[u8], out: &mut Buffer, at: &mut usize) -> S
 
 // sheet HEX: whether the bytes load. They are kept either way, for the path questions; an accepted sheet makes a fresh monitor.
 fn take_sheet(mut state: State, rest: &[u8], out: &mut Buffer, at: &mut usize) -> State {
-    let mut bytes = [0u8; 8192];
+    let mut bytes = [0u8; text::BYTES];
     let Hex::Bytes(n) = text::hex_into(rest, &mut bytes) else {
         answers::unknown(out, at);
         return state;
@@ -70,7 +70,7 @@ fn ask_path(state: State, rest: &[u8], out: &mut Buffer, at: &mut usize) -> Stat
         answers::unknown(out, at);
         return state;
     };
-    let mut bytes = [0u8; 8192];
+    let mut bytes = [0u8; text::BYTES];
     let Hex::Bytes(n) = text::hex_into(text::argument(rest), &mut bytes) else {
         answers::unknown(out, at);
         return state;

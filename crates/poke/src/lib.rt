@@ -86,7 +86,7 @@ fn places(f: Field) -> usize {
 }
 
 fn low32(v: u64) -> u32 {
-    (v % 4294967296) as u32
+    (v % (u32::MAX as u64 + 1)) as u32
 }
 
 fn low8(v: u64) -> u8 {

@@ -144,7 +144,7 @@ pub fn decimal32(s: &[u8]) -> Number32 {
     let Number::Is(n) = decimal(s) else {
         return Number32::Wrong;
     };
-    if 4294967295 < n {
+    if (u32::MAX as u64) < n {
         return Number32::Wrong;
     }
     Number32::Is(n as u32)
@@ -202,9 +202,12 @@ fn is_dash(s: &[u8]) -> bool {
     seen
 }
 
+// How many bytes a text may say: twice what a sheet has, so that one too long is judged and not misread.
+pub const BYTES: usize = 8192;
+
 // Puts the bytes that s says at the front of buf. Spaces and "|" may stand between the pairs, before them and behind them, but not inside one. A text
 // with no pair is wrong, but for one "-" (no bytes), and so is one with more bytes than buf has room for.
-pub fn hex_into(s: &[u8], buf: &mut [u8; 8192]) -> Hex {
+pub fn hex_into(s: &[u8], buf: &mut [u8; BYTES]) -> Hex {
     if is_dash(s) {
         return Hex::Bytes(0);
     }
@@ -216,7 +219,7 @@ pub fn hex_into(s: &[u8], buf: &mut [u8; 8192]) -> Hex {
             i += 1;
             continue;
         }
-        if 8192 <= n {
+        if BYTES <= n {
             return Hex::Wrong;
         }
         let Pair::Byte(b) = pair_at(s, i) else {
@@ -233,6 +236,6 @@ pub fn hex_into(s: &[u8], buf: &mut [u8; 8192]) -> Hex {
 }
 
 // The first n bytes of a buffer that hex_into filled.
-pub fn held(buf: &[u8; 8192], n: usize) -> &[u8] {
+pub fn held(buf: &[u8; BYTES], n: usize) -> &[u8] {
     front(buf, n)
 }
