@@ -55,6 +55,8 @@ fn follows(kind: u8, last: &[u8], p: &[u8]) -> bool
     }
     let a = byte(last, 0);
     let b = byte(p, 0);
+    let c = byte(last, 1);
+    let d = byte(p, 1);
     if a < b {
         return true;
     }
@@ -64,7 +66,7 @@ fn follows(kind: u8, last: &[u8], p: &[u8]) -> bool
     if kind == limits::ROOT {
         return ascends(tail(last), tail(p));
     }
-    byte(last, 1) < byte(p, 1)
+    c < d
 }
 
 // Whether a record is out of order behind the last one, of kind 0 where there is none.

@@ -21,23 +21,29 @@ byte-requires c κs = search needs
 byte-requires-2 : tie.Need-byte-requires-2
 byte-requires-2 c κs = search needs
 
+byte-requires-3 : tie.Need-byte-requires-3
+byte-requires-3 c κs = search needs
+
+byte-requires-4 : tie.Need-byte-requires-4
+byte-requires-4 c κs = search needs
+
 returns-3 : tie.Need-returns-3
 returns-3 c =
-    let start = c .before .before .before .before .before .before .before in
-    let if1 = c .before .before .before .before .if1 in
-    let if2 = c .before .before .before .if2 in
-    let byte = c .before .before .byte in
-    let byte2 = c .before .byte2 in
+    let start = c .before .before .before .before .before .before .before .before .before in
+    let if1 = c .before .before .before .before .before .before .if1 in
+    let if2 = c .before .before .before .before .before .if2 in
+    let byte = c .before .before .before .before .byte in
+    let byte2 = c .before .before .before .byte2 in
     sym
     (follows-less (start .args .kind) (start .args .last .now) (start .args .p .now) (start .pre) (if1 .left) (if2 .left) (byte .result) (byte2 .result) (byte .ensures) (byte2 .ensures) (c .if3 .taken))
 
 returns-4 : tie.Need-returns-4
 returns-4 c =
-    let start = c .before .before .before .before .before .before .before .before in
-    let if1 = c .before .before .before .before .before .if1 in
-    let if2 = c .before .before .before .before .if2 in
-    let byte = c .before .before .before .byte in
-    let byte2 = c .before .before .byte2 in
+    let start = c .before .before .before .before .before .before .before .before .before .before in
+    let if1 = c .before .before .before .before .before .before .before .if1 in
+    let if2 = c .before .before .before .before .before .before .if2 in
+    let byte = c .before .before .before .before .before .byte in
+    let byte2 = c .before .before .before .before .byte2 in
     sym
     (follows-more (start .args .kind) (start .args .last .now) (start .args .p .now) (start .pre) (if1 .left) (if2 .left) (byte .result) (byte2 .result) (byte .ensures) (byte2 .ensures) (c .if4 .taken))
 
@@ -54,36 +60,30 @@ returns-5 : tie.Need-returns-5
 returns-5 c =
     let tail = c .before .before .tail in
     let tail2 = c .before .tail2 in
-    let start = c .before .before .before .before .before .before .before .before .before .before .before .before in
-    let if1 = c .before .before .before .before .before .before .before .before .before .if1 in
-    let if2 = c .before .before .before .before .before .before .before .before .if2 in
-    let byte = c .before .before .before .before .before .before .before .byte in
-    let byte2 = c .before .before .before .before .before .before .byte2 in
+    let start = c .before .before .before .before .before .before .before .before .before .before .before .before .before .before in
+    let if1 = c .before .before .before .before .before .before .before .before .before .before .before .if1 in
+    let if2 = c .before .before .before .before .before .before .before .before .before .before .if2 in
+    let byte = c .before .before .before .before .before .before .before .before .before .byte in
+    let byte2 = c .before .before .before .before .before .before .before .before .byte2 in
     let if3 = c .before .before .before .before .before .if3 in
     let if4 = c .before .before .before .before .if4 in
     let if5 = c .before .before .before .if5 in
     c .ascends .ensures ∙ ap₂ ascends (tail .ensures) (tail2 .ensures) ∙ sym
     (follows-root (start .args .kind) (start .args .last .now) (start .args .p .now) (start .pre) (if1 .left) (if2 .left) (byte .result) (byte2 .result) (byte .ensures) (byte2 .ensures) (if3 .left) (if4 .left) (if5 .taken))
 
-byte-requires-3 : tie.Need-byte-requires-3
-byte-requires-3 c κs = search needs
-
-byte-requires-4 : tie.Need-byte-requires-4
-byte-requires-4 c κs = search needs
-
 returns-6 : tie.Need-returns-6
 returns-6 c =
-    let byte3 = c .before .byte3 in
+    let byte3 = c .before .before .before .before .byte3 in
+    let byte4 = c .before .before .before .byte4 in
     let start = c .before .before .before .before .before .before .before .before .before .before .before in
     let if1 = c .before .before .before .before .before .before .before .before .if1 in
     let if2 = c .before .before .before .before .before .before .before .if2 in
     let byte = c .before .before .before .before .before .before .byte in
     let byte2 = c .before .before .before .before .before .byte2 in
-    let if3 = c .before .before .before .before .if3 in
-    let if4 = c .before .before .before .if4 in
-    let if5 = c .before .before .if5 in
-    ap₂ ltb (byte3 .ensures) (c .byte4 .ensures) ∙ sym
-    (follows-pair (start .args .kind) (start .args .last .now) (start .args .p .now) (start .pre) (if1 .left) (if2 .left) (byte .result) (byte2 .result) (byte .ensures) (byte2 .ensures) (if3 .left) (if4 .left) (if5 .left))
+    let if3 = c .before .before .if3 in
+    let if4 = c .before .if4 in
+    ap₂ ltb (byte3 .ensures) (byte4 .ensures) ∙ sym
+    (follows-pair (start .args .kind) (start .args .last .now) (start .args .p .now) (start .pre) (if1 .left) (if2 .left) (byte .result) (byte2 .result) (byte .ensures) (byte2 .ensures) (if3 .left) (if4 .left) (c .if5 .left))
 
 pub follows-spec : {M : Type 1} → statement M
 follows-spec =
@@ -93,12 +93,12 @@ follows-spec =
     returns-2
     byte-requires
     byte-requires-2
+    byte-requires-3
+    byte-requires-4
     returns-3
     returns-4
     tail-requires
     tail-requires-2
     ascends-requires
     returns-5
-    byte-requires-3
-    byte-requires-4
     returns-6)
