@@ -1,2 +1,3 @@
-pub mod Coincide
 pub mod Asked
+pub mod Coincide
+pub mod Events
