@@ -1,4 +1,6 @@
 // The line of each kind of answer. Where a call was refused, the line has "r" and the number of the refusal in place of what the call would say.
+#![tactic(auto)]
+
 ghost use Rattle.std.specs.Prelude.{◌<◌};
 
 use buffer::Buffer;

@@ -1,4 +1,6 @@
 // Bits of numbers, and numbers made wider.
+#![tactic(auto)]
+
 ghost use Rattle.std.specs.Prelude.{◌≡◌, cond, ◌≤◌, ◌<◌};
 ghost use Rattle.meaning.specs.Limits.{word_bits};
 ghost use Rattle.meaning.specs.Sets.{mem};

@@ -1,4 +1,6 @@
 // Cases whose answers were written by hand from the paper: every refusal of sheets and paths, edge lengths, and inputs that tell readings apart.
+#![tactic(auto)]
+
 fn main() {
     commands::serve();
 }

@@ -1,4 +1,6 @@
 // Runs the library on commands: takes standard input line by line, and writes one line for each command. A line is run by `lines`.
+#![tactic(auto)]
+
 use answers::buffer;
 use answers::buffer::Buffer;
 use lines::State;

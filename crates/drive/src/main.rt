@@ -1,4 +1,6 @@
 // Any script of commands on standard input.
+#![tactic(auto)]
+
 fn main() {
     commands::serve();
 }

@@ -1,4 +1,6 @@
 // Sets of events as whole numbers, and what a session may still take. Each test looks at each event, then at each cause or conflict.
+#![tactic(auto)]
+
 ghost use Rattle.std.specs.Prelude.{◌≡◌, not, ◌&&◌, ◌||◌, ◌≤◌, ◌<◌};
 ghost use Rattle.meaning.specs.Limits.{events_most};
 ghost use Rattle.meaning.specs.Sets.{mem, added as added_to, apart as apart_in, within as within_in};

@@ -1,4 +1,6 @@
 // The fault of one record: whether it is out of order, one too many, out of range or a malformed root, judged by a tally of the records before it.
+#![tactic(auto)]
+
 ghost use Rattle.std.specs.Prelude.{◌≡◌, not};
 ghost use Rattle.meaning.specs.Sheet.{Known, item_of, root_formed, item_fault};
 ghost use Rattle.faults.specs.Tallies.{Inside, payload_in, item_in, tallied};

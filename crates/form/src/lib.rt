@@ -1,5 +1,7 @@
 // The form of a path: one or more segments, each preceded by one "/", none empty, "." or "..", no zero byte, nothing after the last.
 // Roots obey the same form.
+#![tactic(auto)]
+
 ghost use Rattle.std.specs.Prelude.{◌≡◌, ◌+◌, ◌≤◌, length, drop};
 ghost use Rattle.meaning.specs.Lists.{contains as contains_byte, same as same_bytes};
 ghost use Rattle.meaning.specs.Path.{segment_ok, well_formed};

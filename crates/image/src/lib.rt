@@ -1,4 +1,6 @@
 // The saved image: a monitor's counts, the row that it carries and its kept sessions as bytes, and back. Rows are not written: they are made anew.
+#![tactic(auto)]
+
 ghost use Rattle.std.specs.Prelude.{◌≡◌};
 ghost use Rattle.image.specs.Images.{save_of, buffer_after, restore_of};
 

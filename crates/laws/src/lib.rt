@@ -1,1 +1,2 @@
 // Laws about the written meaning: see proofs/.
+#![tactic(auto)]

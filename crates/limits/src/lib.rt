@@ -1,4 +1,5 @@
 // The numbers that document 01 sets, each once in the code; `meaning.Limits` has them in the written meaning (`meaning.Records` the mark), and no promise holds unless the two agree.
+#![tactic(auto)]
 
 // A sheet: so many events, causes, conflicts, roots and nodes at most, and so many bytes.
 pub const EVENTS: usize = 32;

@@ -1,5 +1,7 @@
 // One line: which command it is, and what the commands work on. Those on a sheet's bytes are here, a function for each; those on the monitor are in `calls`.
 // Each takes the state, hands it back as it is then, and writes one line. A command that cannot be read gives "?" and leaves the state as it was.
+#![tactic(auto)]
+
 use answers::buffer::Buffer;
 use monitor::Monitor;
 use sheet::Sheet;

@@ -1,1 +1,2 @@
 // The written meaning has definitions only: see specs/.
+#![tactic(auto)]

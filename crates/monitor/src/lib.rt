@@ -1,5 +1,7 @@
 // The monitor: a loaded sheet, the counts, what is carried past the sessions let go, and the sets and rows of the kept ones. Each call tests the state
 // first (20), then the paper's order; a refusal hands the monitor back as it was.
+#![tactic(auto)]
+
 ghost use Rattle.std.specs.Prelude.{◌≡◌};
 ghost use Rattle.monitor.specs.Calls.{fresh, bad, settled as settled_by};
 ghost use Rattle.monitor.specs.Fits.{Fit};

@@ -1,4 +1,6 @@
 // The path question: which event an access to a path is, the root that it lies under as it stands in the sheet, and what follows the root.
+#![tactic(auto)]
+
 ghost use Rattle.std.specs.Prelude.{◌≡◌, ◌+◌, ◌≤◌, length, drop};
 ghost use Rattle.meaning.specs.Path.{edge};
 ghost use Rattle.meaning.specs.Question.{question};

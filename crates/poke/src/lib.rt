@@ -1,4 +1,6 @@
 // Puts a number into the stored state, whatever comes of it: this is how states that no call made are reached.
+#![tactic(auto)]
+
 use monitor::Monitor;
 use sheet::Sheet;
 use text::{Number, Number32};

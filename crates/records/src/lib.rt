@@ -1,5 +1,7 @@
 // Records of a sheet: the mark B4 4D, a kind byte, a payload length byte, the payload. What stands at a place of the sheet is a whole record of
 // a known kind, with a payload that fits it; or it is broken, as it is past the sheet's end.
+#![tactic(auto)]
+
 ghost use Rattle.std.specs.Prelude.{◌≡◌, ◌&&◌};
 ghost use Rattle.meaning.specs.Sheet.{node_fits, known_kind, fits as fits_kind};
 ghost use Rattle.records.specs.Frames.{framed_at, answer};

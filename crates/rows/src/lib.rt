@@ -1,4 +1,6 @@
 // The row of truths of a session, from the row before it and the session's set.
+#![tactic(auto)]
+
 ghost use Rattle.std.specs.Prelude.{◌≡◌, true, cond, ◌≤◌, ◌<◌};
 ghost use Rattle.meaning.specs.Limits.{events_most};
 ghost use Rattle.meaning.specs.Sets.{mem};

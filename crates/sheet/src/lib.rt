@@ -1,4 +1,6 @@
 // The loader: from a sheet's bytes to a loaded sheet, or the number of the refusal. One pass, record by record; the earliest faulty record decides.
+#![tactic(auto)]
+
 ghost use Rattle.std.specs.Prelude.{◌≡◌, ◌<◌};
 ghost use Rattle.meaning.specs.Limits.{events_most};
 ghost use Rattle.meaning.specs.Refusals.{refused};

@@ -1,5 +1,7 @@
 // One line of text, taken apart: its words, decimal numbers, and bytes in hexadecimal. Every function takes any text at all and says what it finds, so
 // that a caller has nothing to show first.
+#![tactic(auto)]
+
 ghost use Rattle.std.specs.Prelude.{◌≤◌};
 
 // What a text says in hexadecimal: so many bytes, or nothing that can be read.

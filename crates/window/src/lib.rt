@@ -1,4 +1,6 @@
 // The kept sessions: their sets and rows in two arrays, oldest first, unused places 0.
+#![tactic(auto)]
+
 ghost use Rattle.std.specs.Prelude.{◌≡◌, true, ◌≤◌, ◌-◌, take};
 ghost use Rattle.meaning.specs.Limits.{kept_most};
 ghost use Rattle.meaning.specs.Events.{closed as closed_by};

@@ -1,0 +1,30 @@
+-- `form::same` meets its contract. The loop's invariant: what is left of both is the same exactly if both are.
+-- Assumes nothing.
+use Rattle.std.proofs.Common.{rules}
+use Prim.Native.Nat.{◌-◌}
+use mathlib.Core.Path.{sym, ◌∙◌}
+use native.Mathlib.Omega.{arith}
+use Rattle.form.proofs.Cuts.{same_differs, same_later, same_end, same_length}
+use Rattle.form.proofs.same.Goals as goal
+
+pub returns-then-s-t : goal.returns-then-s-t
+returns-then-s-t c = sym (same_length _ _ c.if-s-t.true)
+
+pub returns-then-s-i : goal.returns-then-s-i
+returns-then-s-i c =
+    let start = c in
+    let loop = c.loop-i in
+    let g = start.args in
+    let i = loop.i in
+    sym (loop.invariant.2 ∙ same_differs g.s.now g.t.now i (omega arith) (omega arith) c.if-s-i.true)
+
+pub loop-i-preserved : goal.loop-i-preserved
+loop-i-preserved c =
+    let start = c in
+    let loop = c.loop-i in
+    let g = start.args in
+    let i = loop.i in
+    (search rules, search rules, loop.invariant.2 ∙ same_later g.s.now g.t.now i (omega arith) (omega arith) c.if-s-i.false)
+
+pub returns : goal.returns
+returns c = let g = c.args in sym (c.loop-i.invariant.2 ∙ same_end g.s.now g.t.now c.loop-i.i (omega arith) (omega arith))
