@@ -1,5 +1,10 @@
 // What is written is gathered in a buffer, of which the first bytes up to at are still to be written. It is handed over when the buffer is full, and by
-// `flush`: so many lines that come at once ask the system only now and then.
+// `flush`: so many lines that come at once ask the system only now and then. Only a write can fail, and that needs a full buffer or `flush`: what was to
+// be written is then still there.
+ghost use Rattle.std.specs.Prelude.{◌≡◌, ◌≤◌, OnOk, OnErr};
+
+use std::io;
+use std::io::Write;
 
 // The room for what is to be written.
 pub const ROOM: usize = 65536;
@@ -7,36 +12,46 @@ pub const ROOM: usize = 65536;
 pub type Buffer = [u8; ROOM];
 
 // Adds one byte. A full buffer is written first.
-pub fn byte(out: &mut Buffer, at: &mut usize, b: u8) {
+pub fn byte<W: Write>(to: &mut W, out: &mut Buffer, at: &mut usize, b: u8) -> io::Result<()>
+    ensures err { OnErr result (ROOM ≤ at.new) }
+    ensures kept { OnErr result (out.new ≡ out.old) }
+{
     let n = *at;
     if n < ROOM {
         out[n] = b;
         *at = n + 1;
-        return;
+        return Ok(());
     }
-    io::write_all(1, out);
+    to.write_all(out)?;
     out[0] = b;
     *at = 1;
+    Ok(())
 }
 
-pub fn bytes(out: &mut Buffer, at: &mut usize, s: &[u8]) {
-    let mut i = 0;
-    while i < s.len() {
-        byte(out, at, s[i]);
-        i += 1;
+pub fn bytes<W: Write>(to: &mut W, out: &mut Buffer, at: &mut usize, s: &[u8]) -> io::Result<()>
+    ensures err { OnErr result (ROOM ≤ at.new) }
+{
+    for b in s {
+        byte(to, out, at, *b)?;
     }
+    Ok(())
 }
 
 // Writes what waits in the buffer.
-pub fn flush(out: &mut Buffer, at: &mut usize) {
-    io::write_all(1, text::front(out, *at));
+pub fn flush<W: Write>(to: &mut W, out: &mut Buffer, at: &mut usize) -> io::Result<()>
+    ensures ok { OnOk result (at.new ≡ 0) }
+    ensures err { OnErr result (at.new ≡ at.old) }
+{
+    to.write_all(text::front(out, *at))?;
     *at = 0;
+    Ok(())
 }
 
-pub fn decimal(out: &mut Buffer, at: &mut usize, n: u64) {
-    let mut digits = [0u8; 20];
-    let k = io::decimal(n, &mut digits);
-    bytes(out, at, &digits[..k]);
+pub fn decimal<W: Write>(to: &mut W, out: &mut Buffer, at: &mut usize, n: u64) -> io::Result<()>
+    ensures err { OnErr result (ROOM ≤ at.new) }
+{
+    let mut digits = itoa::Buffer::new();
+    bytes(to, out, at, digits.format(n).as_bytes())
 }
 
 // The lower-case digit of the lowest four bits of x.
@@ -49,14 +64,15 @@ fn digit(x: u8) -> u8 {
 }
 
 // Two digits a byte, and "-" for no bytes.
-pub fn hex(out: &mut Buffer, at: &mut usize, s: &[u8]) {
+pub fn hex<W: Write>(to: &mut W, out: &mut Buffer, at: &mut usize, s: &[u8]) -> io::Result<()>
+    ensures err { OnErr result (ROOM ≤ at.new) }
+{
     if s.len() == 0 {
-        byte(out, at, b'-');
+        byte(to, out, at, b'-')?;
     }
-    let mut i = 0;
-    while i < s.len() {
-        byte(out, at, digit(s[i] / 16));
-        byte(out, at, digit(s[i]));
-        i += 1;
+    for b in s {
+        byte(to, out, at, digit(*b / 16))?;
+        byte(to, out, at, digit(*b))?;
     }
+    Ok(())
 }

@@ -1,59 +1,98 @@
 // The line of each kind of answer. Where a call was refused, the line has "r" and the number of the refusal in place of what the call would say.
 #![tactic(auto)]
 
-ghost use Rattle.std.specs.Prelude.{◌<◌};
+ghost use Rattle.std.specs.Prelude.{◌<◌, ◌≤◌, OnErr};
 
-use buffer::Buffer;
+use buffer::{Buffer, ROOM};
+use std::io;
+use std::io::Write;
 
 pub mod buffer;
 
 // A command that could not be read.
-pub fn unknown(out: &mut Buffer, at: &mut usize) {
-    buffer::bytes(out, at, b"?\n");
+pub fn unknown<W: Write>(to: &mut W, out: &mut Buffer, at: &mut usize) -> io::Result<()>
+    ensures err { OnErr result (ROOM ≤ at.new) }
+{
+    buffer::bytes(to, out, at, b"?\n")
 }
 
-fn refused(out: &mut Buffer, at: &mut usize, number: u32) {
-    buffer::byte(out, at, b'r');
-    buffer::decimal(out, at, bits::wide(number));
+fn refused<W: Write>(to: &mut W, out: &mut Buffer, at: &mut usize, number: u32) -> io::Result<()>
+    ensures err { OnErr result (ROOM ≤ at.new) }
+{
+    buffer::byte(to, out, at, b'r')?;
+    buffer::decimal(to, out, at, bits::wide(number))
 }
 
 // A refusal and nothing else.
-fn refusal(out: &mut Buffer, at: &mut usize, number: u32) {
-    refused(out, at, number);
-    buffer::byte(out, at, b'\n');
+fn refusal<W: Write>(to: &mut W, out: &mut Buffer, at: &mut usize, number: u32) -> io::Result<()>
+    ensures err { OnErr result (ROOM ≤ at.new) }
+{
+    refused(to, out, at, number)?;
+    buffer::byte(to, out, at, b'\n')
 }
 
 // A call that has nothing to say but that it was accepted.
-pub fn accepted(out: &mut Buffer, at: &mut usize, number: u32) {
+pub fn accepted<W: Write>(
+    to: &mut W,
+    out: &mut Buffer,
+    at: &mut usize,
+    number: u32,
+) -> io::Result<()>
+    ensures err { OnErr result (ROOM ≤ at.new) }
+{
     if number != 0 {
-        refusal(out, at, number);
-        return;
+        return refusal(to, out, at, number);
     }
-    buffer::bytes(out, at, b"ok\n");
+    buffer::bytes(to, out, at, b"ok\n")
 }
 
 // A number behind the letter that says what it is, or the refusal.
-fn told(out: &mut Buffer, at: &mut usize, number: u32, letter: u8, n: u64) {
+fn told<W: Write>(
+    to: &mut W,
+    out: &mut Buffer,
+    at: &mut usize,
+    number: u32,
+    letter: u8,
+    n: u64,
+) -> io::Result<()>
+    ensures err { OnErr result (ROOM ≤ at.new) }
+{
     if number != 0 {
-        refused(out, at, number);
-        return;
+        return refused(to, out, at, number);
     }
-    buffer::byte(out, at, letter);
-    buffer::decimal(out, at, n);
+    buffer::byte(to, out, at, letter)?;
+    buffer::decimal(to, out, at, n)
 }
 
 // The session begun.
-pub fn session(out: &mut Buffer, at: &mut usize, number: u32, session: u32) {
-    told(out, at, number, b's', bits::wide(session));
-    buffer::byte(out, at, b'\n');
+pub fn session<W: Write>(
+    to: &mut W,
+    out: &mut Buffer,
+    at: &mut usize,
+    number: u32,
+    session: u32,
+) -> io::Result<()>
+    ensures err { OnErr result (ROOM ≤ at.new) }
+{
+    told(to, out, at, number, b's', bits::wide(session))?;
+    buffer::byte(to, out, at, b'\n')
 }
 
 // The length of an image, and the whole buffer that was lent for it: what a refused call left there shows too.
-pub fn image(out: &mut Buffer, at: &mut usize, number: u32, length: usize, lent: &[u8]) {
-    told(out, at, number, b'i', length as u64);
-    buffer::byte(out, at, b' ');
-    buffer::hex(out, at, lent);
-    buffer::byte(out, at, b'\n');
+pub fn image<W: Write>(
+    to: &mut W,
+    out: &mut Buffer,
+    at: &mut usize,
+    number: u32,
+    length: usize,
+    lent: &[u8],
+) -> io::Result<()>
+    ensures err { OnErr result (ROOM ≤ at.new) }
+{
+    told(to, out, at, number, b'i', length as u64)?;
+    buffer::byte(to, out, at, b' ')?;
+    buffer::hex(to, out, at, lent)?;
+    buffer::byte(to, out, at, b'\n')
 }
 
 fn part(row: u64, shift: u8) -> u8
@@ -63,7 +102,9 @@ fn part(row: u64, shift: u8) -> u8
 }
 
 // A row of truths in 16 hex digits, its highest byte first.
-fn row(out: &mut Buffer, at: &mut usize, row: u64) {
+fn row<W: Write>(to: &mut W, out: &mut Buffer, at: &mut usize, row: u64) -> io::Result<()>
+    ensures err { OnErr result (ROOM ≤ at.new) }
+{
     let bytes = [
         part(row, 56),
         part(row, 48),
@@ -74,49 +115,75 @@ fn row(out: &mut Buffer, at: &mut usize, row: u64) {
         part(row, 8),
         part(row, 0),
     ];
-    buffer::hex(out, at, &bytes);
+    buffer::hex(to, out, at, &bytes)
 }
 
 // The verdict, and the row of truths.
-pub fn verdict(out: &mut Buffer, at: &mut usize, number: u32, allow: bool, truths: u64) {
+pub fn verdict<W: Write>(
+    to: &mut W,
+    out: &mut Buffer,
+    at: &mut usize,
+    number: u32,
+    allow: bool,
+    truths: u64,
+) -> io::Result<()>
+    ensures err { OnErr result (ROOM ≤ at.new) }
+{
     if number != 0 {
-        refusal(out, at, number);
-        return;
+        return refusal(to, out, at, number);
     }
     if allow {
-        buffer::bytes(out, at, b"allow ");
+        buffer::bytes(to, out, at, b"allow ")?;
     } else {
-        buffer::bytes(out, at, b"deny ");
+        buffer::bytes(to, out, at, b"deny ")?;
     }
-    row(out, at, truths);
-    buffer::byte(out, at, b'\n');
+    row(to, out, at, truths)?;
+    buffer::byte(to, out, at, b'\n')
 }
 
 // Total, let go and kept.
-pub fn counts(out: &mut Buffer, at: &mut usize, number: u32, total: u32, gone: u32, kept: usize) {
+pub fn counts<W: Write>(
+    to: &mut W,
+    out: &mut Buffer,
+    at: &mut usize,
+    number: u32,
+    total: u32,
+    gone: u32,
+    kept: usize,
+) -> io::Result<()>
+    ensures err { OnErr result (ROOM ≤ at.new) }
+{
     if number != 0 {
-        refusal(out, at, number);
-        return;
+        return refusal(to, out, at, number);
     }
-    buffer::decimal(out, at, bits::wide(total));
-    buffer::byte(out, at, b' ');
-    buffer::decimal(out, at, bits::wide(gone));
-    buffer::byte(out, at, b' ');
-    buffer::decimal(out, at, kept as u64);
-    buffer::byte(out, at, b'\n');
+    buffer::decimal(to, out, at, bits::wide(total))?;
+    buffer::byte(to, out, at, b' ')?;
+    buffer::decimal(to, out, at, bits::wide(gone))?;
+    buffer::byte(to, out, at, b' ')?;
+    buffer::decimal(to, out, at, kept as u64)?;
+    buffer::byte(to, out, at, b'\n')
 }
 
 // The event that an access is, the root that the path lies under and the rest of the path.
-pub fn event(out: &mut Buffer, at: &mut usize, number: u32, event: u8, root: &[u8], rest: &[u8]) {
+pub fn event<W: Write>(
+    to: &mut W,
+    out: &mut Buffer,
+    at: &mut usize,
+    number: u32,
+    event: u8,
+    root: &[u8],
+    rest: &[u8],
+) -> io::Result<()>
+    ensures err { OnErr result (ROOM ≤ at.new) }
+{
     if number != 0 {
-        refusal(out, at, number);
-        return;
+        return refusal(to, out, at, number);
     }
-    buffer::byte(out, at, b'e');
-    buffer::decimal(out, at, event as u64);
-    buffer::byte(out, at, b' ');
-    buffer::hex(out, at, root);
-    buffer::byte(out, at, b' ');
-    buffer::hex(out, at, rest);
-    buffer::byte(out, at, b'\n');
+    buffer::byte(to, out, at, b'e')?;
+    buffer::decimal(to, out, at, event as u64)?;
+    buffer::byte(to, out, at, b' ')?;
+    buffer::hex(to, out, at, root)?;
+    buffer::byte(to, out, at, b' ')?;
+    buffer::hex(to, out, at, rest)?;
+    buffer::byte(to, out, at, b'\n')
 }
