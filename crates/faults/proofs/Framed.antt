@@ -36,8 +36,8 @@ module _ (s : List ℕ) (at : ℕ) (e : framed (drop at s) ≡ true) where
   unfolding whole
   room = (leb-true 4 (length r) (and_left (leb 4 (length r)) _ parts.0), leb-true (4 + get_or r 3 0) (length r) (and_right (leb 4 (length r)) _ parts.0))
 
-  pub frame_at : at < length s
-  frame_at = let w = room in omega (arith, length-drop at s)
+  pub frame_at_lem : at < length s
+  frame_at_lem = let w = room in omega (arith, length-drop at s)
 
   pub frame_known : Known f.kind
   unfolding frame_at

@@ -12,7 +12,7 @@ pub mod ranges;
 
 // What of the records before a record decides on it: the last of them (of kind 0 where there is none), the number of events, and how many
 // of each kind there were, kind 1 first.
-#[derive(Drop)]
+#[derive(Clone, Copy)]
 pub struct Tally {
     pub last: Frame,
     pub events: usize,

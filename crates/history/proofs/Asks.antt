@@ -25,7 +25,7 @@ use Rattle.monitor.specs.declared.Counted.{Counted}
 use Rattle.monitor.specs.Calls.{bad, row_now, check_of, counts_of}
 use Rattle.history.specs.Made.{rows_of, standing, monitor_of, Lawful}
 use Rattle.history.specs.Answers.{unless, checked_told, counted_told}
-use Rattle.history.proofs.Loaded.{in_order}
+use Rattle.history.proofs.Loaded.{in_order_lem}
 use Rattle.history.proofs.Front.{kept_count}
 use Rattle.history.proofs.Rows.{before_is, row_next}
 use Rattle.history.proofs.Standing.{not_bad}
@@ -80,7 +80,7 @@ module _ (s : Sheet) where
 
   row_is : (h : List ℕ) → Lawful s h → row_now (monitor_of s h) ≡ last_row r h
   unfolding row_now monitor_of standing let_go last_row or_one_empty row
-  row_is [] w = row_next r (in_order s w.sounds) (0 ∷ []) 0
+  row_is [] w = row_next r (in_order_lem s w.sounds) (0 ∷ []) 0
   row_is (x ∷ h) w = row_some (x ∷ h) (λ e. omega arith)
 
   module _ (h : List ℕ) (w : Lawful s h) where

@@ -21,7 +21,7 @@ use Rattle.monitor.specs.declared.Begun.{Begun}
 use Rattle.monitor.specs.Calls.{settled, opened, begin_fault_of, begin_of}
 use Rattle.history.specs.Made.{standing, monitor_of, Lawful}
 use Rattle.history.specs.Answers.{unless, begun_told}
-use Rattle.history.proofs.Loaded.{in_order, empty_allowed}
+use Rattle.history.proofs.Loaded.{in_order_lem, empty_allowed}
 use Rattle.history.proofs.Lists.{all_more}
 use Rattle.window.proofs.Moves.{front_le}
 use Rattle.history.proofs.Front.{run_on, kept_count}
@@ -57,7 +57,7 @@ module _ (s : Sheet) (h : List ℕ) (w : Lawful s h) where
   unfolding monitor_of kept_of
   longer_stands e =
       let l = front_le r h in
-      ap settled (opened_standing s (in_order s w.sounds) h (let_go r h) l (room e).1)
+      ap settled (opened_standing s (in_order_lem s w.sounds) h (let_go r h) l (room e).1)
       ∙ settles s h longer (omega (arith, size)) front_stays
 
   longer_lawful : fault ≡ 0 → Lawful s longer

@@ -31,7 +31,7 @@ use Rattle.image.proofs.ReadBack.{Writable, said_again, formed_again}
 use Rattle.history.specs.Made.{rows_of, standing, monitor_of, Lawful}
 use Rattle.history.specs.Answers.{unless, saved_told}
 use Rattle.window.proofs.Filled.{filled_take, filled_at}
-use Rattle.history.proofs.Loaded.{in_order}
+use Rattle.history.proofs.Loaded.{in_order_lem}
 use Rattle.history.proofs.Rows.{refreshed_rows}
 use Rattle.window.proofs.Moves.{front_le}
 use Rattle.history.proofs.Front.{front_open, kept_count}
@@ -177,7 +177,7 @@ module _ (s : Sheet) (h : List ℕ) (w : Lawful s h) where
       let z : List ℕ = zeros n in
       let few = w.few in
       ap₂ (λ (l : List ℕ) (k : ℕ). refreshed r (row r h g) (filled (drop g h)) l 0 k) (sym (zeros_fill n few)) (sym (length-replicate n 0))
-      ∙ refreshed_rows r (in_order s w.sounds) h (filled (drop g h)) g 0 z (λ i. filled_at (drop g h) i ∙ get_or-drop g h i 0)
+      ∙ refreshed_rows r (in_order_lem s w.sounds) h (filled (drop g h)) g 0 z (λ i. filled_at (drop g h) i ∙ get_or-drop g h i 0)
       ∙ ap (λ (k : ℕ). filled (rows_of r h g k)) (zero-add (length z) ∙ length-replicate n 0)
 
   -- the monitor that the image of a history says is the monitor of the history

@@ -125,9 +125,9 @@ module _ (s : Sheet) (ok : sound s ≡ true) where
   r = rules_in s
 
   -- its nodes are in order
-  pub in_order : in_order r ≡ true
+  pub in_order_lem : in_order r ≡ true
   unfolding in_order rules_in
-  in_order = every_if (λ n. node_in_range r.events n (r.node n)) r.nodes (λ n l. (node_fits_lem s ok n l).ranged)
+  in_order_lem = every_if (λ n. node_in_range r.events n (r.node n)) r.nodes (λ n l. (node_fits_lem s ok n l).ranged)
 
   -- what an event needs is below it, and it does not conflict with itself
   event_sound : (e : ℕ) → e < s.events → (r.needs e < 2 ^ e) × (mem e (r.conflicts e) ≡ false)

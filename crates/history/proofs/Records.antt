@@ -23,7 +23,7 @@ use Rattle.monitor.specs.Calls.{settled, written, fault_at, fault_in, record_of}
 use Rattle.window.specs.Kept.{filled}
 use Rattle.history.specs.Made.{standing, monitor_of, Lawful}
 use Rattle.history.specs.Answers.{unless, recorded_told}
-use Rattle.history.proofs.Loaded.{in_order, not_itself}
+use Rattle.history.proofs.Loaded.{in_order_lem, not_itself}
 use Rattle.window.proofs.Filled.{filled_at}
 use Rattle.history.proofs.Lists.{all_at, all_set}
 use Rattle.window.proofs.Moves.{front_le}
@@ -138,7 +138,7 @@ module _ (s : Sheet) (h : List ℕ) (w : Lawful s h) (n e : ℕ) where
         let m = f.begun in
         let at : g + (n - g - 1) ≡ n - 1 = omega arith in
         ap settled
-        (written_standing s (in_order s w.sounds) h g (n - g - 1) e (omega (arith, length-drop g h))
+        (written_standing s (in_order_lem s w.sounds) h g (n - g - 1) e (omega (arith, length-drop g h))
         ∙ ap (λ (i : ℕ). standing s (set h i (added e (get_or h i 0))) g) at)
         ∙ settles s h grown (omega (arith, front_le r h, size)) front_stays
 

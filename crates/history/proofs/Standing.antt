@@ -64,9 +64,9 @@ module _ (s : Sheet) where
         rows = moved k n (filled (rows_of r h g n));
       }
 
-  let_go : (h : List ℕ) (g k : ℕ) → k ≤ length (drop g h) → without h g k ≡ standing s h (g + k)
+  let_go_lem : (h : List ℕ) (g k : ℕ) → k ≤ length (drop g h) → without h g k ≡ standing s h (g + k)
   unfolding without standing
-  let_go h g k l =
+  let_go_lem h g k l =
       let n : ℕ = length (drop g h) in
       let left : n - k ≡ length (drop (g + k) h) = omega (arith, length-drop g h, length-drop (g + k) h) in
       let two : n ≡ k + (n - k) = omega arith in
@@ -81,7 +81,7 @@ module _ (s : Sheet) where
   -- letting go goes on from wherever it stood
   settled_standing : (h : List ℕ) (g : ℕ) → settled (standing s h g) ≡ standing s h (g + let_go r (drop g h))
   unfolding settled standing without
-  settled_standing h g = ap (without h g) (ap (let_go r) (filled_take (drop g h) (length (drop g h)) refl)) ∙ let_go h g (let_go r (drop g h)) (front_le r (drop g h))
+  settled_standing h g = ap (without h g) (ap (let_go r) (filled_take (drop g h) (length (drop g h)) refl)) ∙ let_go_lem h g (let_go r (drop g h)) (front_le r (drop g h))
 
   -- Where the sessions that h let go stand in front of k as they were, letting go makes the monitor of k.
   pub settles :

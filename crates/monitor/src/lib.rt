@@ -13,7 +13,7 @@ mod check;
 mod counts;
 mod record;
 
-#[derive(Drop)]
+#[derive(Clone, Copy)]
 pub struct Monitor {
     pub sheet: Sheet,
     pub total: u32,

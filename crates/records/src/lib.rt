@@ -11,7 +11,7 @@ mod reader;
 pub use reader::{Reader, read_at};
 
 // A record's kind, where its payload starts and how long it is, and where the next record stands.
-#[derive(Drop)]
+#[derive(Clone, Copy)]
 pub struct Frame {
     pub kind: u8,
     pub start: usize,

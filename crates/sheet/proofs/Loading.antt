@@ -24,7 +24,7 @@ use Rattle.records.specs.declared.Frame.{Frame}
 use Rattle.records.specs.Frames.{frame_at}
 use Rattle.faults.specs.declared.Tally.{Tally}
 use Rattle.faults.specs.Tallies.{Inside, payload_in, item_in, tallied}
-use Rattle.faults.proofs.Framed.{frame_at, frame_known, frame_inside, frame_next, frame_payload, frame_item, frame_behind, frame_node}
+use Rattle.faults.proofs.Framed.{frame_at_lem, frame_known, frame_inside, frame_next, frame_payload, frame_item, frame_behind, frame_node}
 use Rattle.sheet.specs.declared.Sheet.{Sheet}
 use Rattle.sheet.specs.declared.Loaded.{Loaded}
 use Rattle.sheet.specs.Loads.{table_of, kind_of_node, left_of, right_of, nothing, stored, answered}
@@ -101,7 +101,7 @@ module _ (s : List ℕ) (x : Sheet) (t : Tally) (at : ℕ) (w : Walking s x t at
     fault_is n q = rw e (sym (q ∙ ap₂ item_fault w.stands.tallies (frame_item s at e)))
 
     pub fails : (n : ℕ) → n ≡ item_fault (tallied s t) (item_in s fr) → (n ≡ 0 → ⊥) → walk (length s) nothing_read s ≡ refused n
-    fails n q ne = ends_badly n (frame_at s at e) (fault_is n q) ne
+    fails n q ne = ends_badly n (frame_at_lem s at e) (fault_is n q) ne
 
     -- a record without fault is taken
     module _ (z : 0 ≡ item_fault (tallied s t) (item_in s fr)) where
@@ -146,7 +146,7 @@ module _ (s : List ℕ) (x : Sheet) (t : Tally) (at : ℕ) (w : Walking s x t at
       goes_on = go w.steps w.enough w.same
         where
           go : (n : ℕ) → length s - at ≤ n → walk n g rest ≡ walk (length s) nothing_read s → Walking s y (counted t fr y.events) fr.next
-          go zero h q = absurd (let l = frame_at s at e in omega arith)
+          go zero h q = absurd (let l = frame_at_lem s at e in omega arith)
           go (suc m) h q =
               record {
                 reading = after_record g k p;
@@ -161,7 +161,7 @@ module _ (s : List ℕ) (x : Sheet) (t : Tally) (at : ℕ) (w : Walking s x t at
                 enough = let l = frame_next s at e in omega arith;
                 same =
                     ap (walk m (after_record g k p)) (frame_behind s at e)
-                    ∙ sym (walk_suc m g rest (left (frame_at s at e)) ∙ rw (fault_is 0 z))
+                    ∙ sym (walk_suc m g rest (left (frame_at_lem s at e)) ∙ rw (fault_is 0 z))
                     ∙ q;
               }
 

@@ -14,7 +14,7 @@ use records::{Frame, Record};
 mod soundness;
 
 // What the monitor needs of a sheet, and no more.
-#[derive(Drop)]
+#[derive(Clone, Copy)]
 pub struct Sheet {
     pub events: usize,
     // For each event the set of those that it needs, and of those that it conflicts with.
