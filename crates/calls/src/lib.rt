@@ -2,72 +2,98 @@
 // read gives "?" and leaves the monitor as it was. A refused call's monitor is taken back as well: that it is unaltered then shows in what follows.
 #![tactic(auto)]
 
-use answers::buffer::Buffer;
+ghost use Rattle.std.specs.Prelude.{◌≤◌, OnErr};
+
+use answers::buffer::{Buffer, ROOM};
 use monitor::Monitor;
+use std::io;
+use std::io::Write;
 use text::{Hex, Number32};
 
 // Runs the command that the line's first word names.
-pub fn run(m: Monitor, line: &[u8], out: &mut Buffer, at: &mut usize) -> Monitor {
+pub fn run<W: Write>(
+    m: Monitor,
+    line: &[u8],
+    to: &mut W,
+    out: &mut Buffer,
+    at: &mut usize,
+) -> io::Result<Monitor>
+    ensures err { OnErr result (ROOM ≤ at.new) }
+{
     let rest = text::argument(line);
     if text::same(line, b"begin") {
-        return begin(m, out, at);
+        return begin(m, to, out, at);
     }
     if text::leads(line, b"record") {
-        return record(m, rest, out, at);
+        return record(m, rest, to, out, at);
     }
     if text::same(line, b"check") {
-        return check(m, out, at);
+        return check(m, to, out, at);
     }
     if text::same(line, b"counts") {
-        return counts(m, out, at);
+        return counts(m, to, out, at);
     }
     if text::leads(line, b"save") {
-        return save(m, rest, out, at);
+        return save(m, rest, to, out, at);
     }
     if text::leads(line, b"restore") {
-        return restore(m, rest, out, at);
+        return restore(m, rest, to, out, at);
     }
     if text::leads(line, b"poke") {
-        return poke(m, rest, out, at);
+        return poke(m, rest, to, out, at);
     }
-    answers::unknown(out, at);
-    m
+    answers::unknown(to, out, at)?;
+    Ok(m)
 }
 
 // begin: the session's number.
-fn begin(m: Monitor, out: &mut Buffer, at: &mut usize) -> Monitor {
+fn begin<W: Write>(m: Monitor, to: &mut W, out: &mut Buffer, at: &mut usize) -> io::Result<Monitor>
+    ensures err { OnErr result (ROOM ≤ at.new) }
+{
     let a = m.begin();
-    answers::session(out, at, a.number, a.session);
-    a.monitor
+    answers::session(to, out, at, a.number, a.session)?;
+    Ok(a.monitor)
 }
 
 // record S E.
-fn record(m: Monitor, rest: &[u8], out: &mut Buffer, at: &mut usize) -> Monitor {
+fn record<W: Write>(
+    m: Monitor,
+    rest: &[u8],
+    to: &mut W,
+    out: &mut Buffer,
+    at: &mut usize,
+) -> io::Result<Monitor>
+    ensures err { OnErr result (ROOM ≤ at.new) }
+{
     let Number32::Is(session) = text::decimal32(text::word(rest)) else {
-        answers::unknown(out, at);
-        return m;
+        answers::unknown(to, out, at)?;
+        return Ok(m);
     };
     let Number32::Is(event) = text::decimal32(text::argument(rest)) else {
-        answers::unknown(out, at);
-        return m;
+        answers::unknown(to, out, at)?;
+        return Ok(m);
     };
     let a = m.record(session, event);
-    answers::accepted(out, at, a.number);
-    a.monitor
+    answers::accepted(to, out, at, a.number)?;
+    Ok(a.monitor)
 }
 
 // check: the verdict, and the row of truths in 16 hex digits.
-fn check(m: Monitor, out: &mut Buffer, at: &mut usize) -> Monitor {
+fn check<W: Write>(m: Monitor, to: &mut W, out: &mut Buffer, at: &mut usize) -> io::Result<Monitor>
+    ensures err { OnErr result (ROOM ≤ at.new) }
+{
     let a = m.check();
-    answers::verdict(out, at, a.number, a.allow, a.row);
-    a.monitor
+    answers::verdict(to, out, at, a.number, a.allow, a.row)?;
+    Ok(a.monitor)
 }
 
 // counts: total, let go, kept.
-fn counts(m: Monitor, out: &mut Buffer, at: &mut usize) -> Monitor {
+fn counts<W: Write>(m: Monitor, to: &mut W, out: &mut Buffer, at: &mut usize) -> io::Result<Monitor>
+    ensures err { OnErr result (ROOM ≤ at.new) }
+{
     let a = m.counts();
-    answers::counts(out, at, a.number, a.total, a.gone, a.kept);
-    a.monitor
+    answers::counts(to, out, at, a.number, a.total, a.gone, a.kept)?;
+    Ok(a.monitor)
 }
 
 // The longest buffer that `save` is lent.
@@ -79,41 +105,65 @@ fn front(buffer: &[u8; LENT], n: usize) -> &[u8] {
 }
 
 // save N: the image's length, and the buffer of N bytes, each EE before the call.
-fn save(m: Monitor, rest: &[u8], out: &mut Buffer, at: &mut usize) -> Monitor {
+fn save<W: Write>(
+    m: Monitor,
+    rest: &[u8],
+    to: &mut W,
+    out: &mut Buffer,
+    at: &mut usize,
+) -> io::Result<Monitor>
+    ensures err { OnErr result (ROOM ≤ at.new) }
+{
     let Number32::Is(n) = text::decimal32(rest) else {
-        answers::unknown(out, at);
-        return m;
+        answers::unknown(to, out, at)?;
+        return Ok(m);
     };
     if LENT < n as usize {
-        answers::unknown(out, at);
-        return m;
+        answers::unknown(to, out, at)?;
+        return Ok(m);
     }
     let k = n as usize;
     let mut buffer = [0xEEu8; LENT];
     let a = image::save(m, &mut buffer[0..k]);
-    answers::image(out, at, a.number, a.length, front(&buffer, k));
-    a.monitor
+    answers::image(to, out, at, a.number, a.length, front(&buffer, k))?;
+    Ok(a.monitor)
 }
 
 // restore HEX.
-fn restore(m: Monitor, rest: &[u8], out: &mut Buffer, at: &mut usize) -> Monitor {
+fn restore<W: Write>(
+    m: Monitor,
+    rest: &[u8],
+    to: &mut W,
+    out: &mut Buffer,
+    at: &mut usize,
+) -> io::Result<Monitor>
+    ensures err { OnErr result (ROOM ≤ at.new) }
+{
     let mut bytes = [0u8; text::BYTES];
     let Hex::Bytes(n) = text::hex_into(rest, &mut bytes) else {
-        answers::unknown(out, at);
-        return m;
+        answers::unknown(to, out, at)?;
+        return Ok(m);
     };
     let a = image::restore(m, text::held(&bytes, n));
-    answers::accepted(out, at, a.number);
-    a.monitor
+    answers::accepted(to, out, at, a.number)?;
+    Ok(a.monitor)
 }
 
 // poke FIELD I V.
-fn poke(m: Monitor, rest: &[u8], out: &mut Buffer, at: &mut usize) -> Monitor {
+fn poke<W: Write>(
+    m: Monitor,
+    rest: &[u8],
+    to: &mut W,
+    out: &mut Buffer,
+    at: &mut usize,
+) -> io::Result<Monitor>
+    ensures err { OnErr result (ROOM ≤ at.new) }
+{
     let a = poke::poke(m, rest);
     if a.known {
-        answers::accepted(out, at, 0);
+        answers::accepted(to, out, at, 0)?;
     } else {
-        answers::unknown(out, at);
+        answers::unknown(to, out, at)?;
     }
-    a.monitor
+    Ok(a.monitor)
 }

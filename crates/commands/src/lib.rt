@@ -1,9 +1,11 @@
-// Runs the library on commands: takes standard input line by line, and writes one line for each command. A line is run by `lines`.
+// Runs the library on commands: takes the input line by line, and writes one line for each command. A line is run by `lines`.
 #![tactic(auto)]
 
 use answers::buffer;
 use answers::buffer::Buffer;
 use lines::State;
+use std::io;
+use std::io::{Read, Write};
 
 // The room for a line. A line that fills it is too long, so that its end need not be kept.
 const ROOM: usize = 16384;
@@ -28,88 +30,105 @@ fn gather(bytes: &[u8], line: &mut Line, n: &mut usize) {
 }
 
 // Runs the line. An empty one and a comment, however long, are passed over.
-fn finish(state: State, line: &[u8], out: &mut Buffer, at: &mut usize) -> State {
+fn finish<W: Write>(
+    state: State,
+    line: &[u8],
+    to: &mut W,
+    out: &mut Buffer,
+    at: &mut usize,
+) -> io::Result<State> {
     if line.len() == 0 {
-        return state;
+        return Ok(state);
     }
     if line[0] == b'#' {
-        return state;
+        return Ok(state);
     }
     if ROOM <= line.len() {
-        answers::unknown(out, at);
-        return state;
+        answers::unknown(to, out, at)?;
+        return Ok(state);
     }
-    lines::run(state, line, out, at)
+    lines::run(state, line, to, out, at)
 }
 
 // Takes a piece of the input: what ends a line runs it, and what is left over waits in the line for the next piece.
-fn feed(
+fn feed<W: Write>(
     mut state: State,
     piece: &[u8],
     line: &mut Line,
     n: &mut usize,
+    to: &mut W,
     out: &mut Buffer,
     at: &mut usize,
-) -> State {
+) -> io::Result<State> {
     let mut rest = piece;
     while 0 < rest.len() {
         let e = text::until(rest, b'\n');
         gather(text::front(rest, e), line, n);
         if e < rest.len() {
-            state = finish(state, text::front(line, *n), out, at);
+            state = finish(state, text::front(line, *n), to, out, at)?;
             *n = 0;
             rest = &rest[e + 1..];
         } else {
             rest = &rest[0..0];
         }
     }
-    state
+    Ok(state)
 }
 
-// Reads the next piece of the input, and says how many bytes it has: none where the input has ended or cannot be read. What is to be written is written
-// first, since reading may wait: so another program can send a command, read its answer, and only then send the next.
-fn more(piece: &mut [u8; PIECE], out: &mut Buffer, at: &mut usize) -> usize {
-    buffer::flush(out, at);
-    let got = libc::read(0, piece);
-    io::count(got, piece)
+// Reads the next piece of the input, and says how many bytes it has: none where the input has ended. What is to be written is written first, since
+// reading may wait: so another program can send a command, read its answer, and only then send the next.
+fn more<R: Read, W: Write>(
+    piece: &mut [u8; PIECE],
+    from: &mut R,
+    to: &mut W,
+    out: &mut Buffer,
+    at: &mut usize,
+) -> io::Result<usize> {
+    buffer::flush(to, out, at)?;
+    from.read(piece)
 }
 
-// Takes the input piece by piece until there is no more. Nothing says that an input ends, so the turns are counted down from a number that no run
-// uses up.
-fn pieces(
+// Takes the input piece by piece until there is no more. Nothing says that an input ends, so the turns are counted, up to a number that no run reaches.
+fn pieces<R: Read, W: Write>(
     piece: &mut [u8; PIECE],
     line: &mut Line,
     n: &mut usize,
+    from: &mut R,
+    to: &mut W,
     out: &mut Buffer,
     at: &mut usize,
-) -> State {
+) -> io::Result<State> {
     let mut state = State::new();
-    let mut turns = u64::MAX;
-    while 0 < turns {
-        let k = more(piece, out, at);
+    for _ in 0..u64::MAX {
+        let k = more(piece, from, to, out, at)?;
         if k == 0 {
-            return state;
+            return Ok(state);
         }
-        state = feed(state, text::front(piece, k), line, n, out, at);
-        turns -= 1;
+        state = feed(state, text::front(piece, k), line, n, to, out, at)?;
     }
-    state
+    Ok(state)
 }
 
 // The whole run, over the buffers that `serve` has.
-fn run(piece: &mut [u8; PIECE], line: &mut Line, out: &mut Buffer) {
+fn run<R: Read, W: Write>(
+    piece: &mut [u8; PIECE],
+    line: &mut Line,
+    from: &mut R,
+    to: &mut W,
+    out: &mut Buffer,
+) -> io::Result<()> {
     let mut n: usize = 0;
     let mut at: usize = 0;
-    let state = pieces(piece, line, &mut n, out, &mut at);
+    let state = pieces(piece, line, &mut n, from, to, out, &mut at)?;
     // The last line may lack its newline.
-    finish(state, text::front(line, n), out, &mut at);
-    buffer::flush(out, &mut at);
+    finish(state, text::front(line, n), to, out, &mut at)?;
+    buffer::flush(to, out, &mut at)
 }
 
-// Answers standard input on standard output.
-pub fn serve() {
+// Answers what is read with what is written, until the input ends. A read or a write that fails ends the run with its error.
+pub fn serve<R: Read, W: Write>(from: &mut R, to: &mut W) -> io::Result<()> {
     let mut piece = [0u8; PIECE];
     let mut line = [0u8; ROOM];
     let mut out = [0u8; buffer::ROOM];
-    run(&mut piece, &mut line, &mut out);
+    run(&mut piece, &mut line, from, to, &mut out)
 }

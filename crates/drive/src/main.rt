@@ -1,6 +1,8 @@
 // Any script of commands on standard input.
 #![tactic(auto)]
 
-fn main() {
-    commands::serve();
+use std::io;
+
+fn main(rt: HostRuntime) -> io::Result<()> {
+    commands::serve(&mut rt.stdin(), &mut rt.stdout())
 }

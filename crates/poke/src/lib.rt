@@ -6,7 +6,7 @@ use sheet::Sheet;
 use text::{Number, Number32};
 
 // The fields that can be named.
-#[derive(Drop)]
+#[derive(Clone, Copy)]
 enum Field {
     Total,
     LetGo,

@@ -2,6 +2,8 @@
 // stored states that no call made are reached by putting numbers into them.
 #![tactic(auto)]
 
-fn main() {
-    commands::serve();
+use std::io;
+
+fn main(rt: HostRuntime) -> io::Result<()> {
+    commands::serve(&mut rt.stdin(), &mut rt.stdout())
 }
