@@ -1,5 +1,6 @@
 // The commands on the monitor, a function for each. Each takes the monitor, hands it back as it is then, and writes one line. A command that cannot be
-// read gives "?" and leaves the monitor as it was. A refused call's monitor is taken back as well: that it is unaltered then shows in what follows.
+// read gives "?" and leaves the monitor as it was. A refused call's monitor is taken back as well: that it is unaltered then shows in what follows. Where a line
+// cannot be written there is no monitor, only the error of the write.
 #![tactic(auto)]
 
 ghost use Rattle.std.specs.Prelude.{◌≤◌, OnErr};

@@ -1,5 +1,6 @@
 // One line: which command it is, and what the commands work on. Those on a sheet's bytes are here, a function for each; those on the monitor are in `calls`.
-// Each takes the state, hands it back as it is then, and writes one line. A command that cannot be read gives "?" and leaves the state as it was.
+// Each takes the state, hands it back as it is then, and writes one line. A command that cannot be read gives "?" and leaves the state as it was. Where
+// a line cannot be written there is no state, only the error of the write.
 #![tactic(auto)]
 
 ghost use Rattle.std.specs.Prelude.{◌≤◌, OnErr};
