@@ -4,7 +4,7 @@ use Prim.Native.Nat.{ℕ}
 use mathlib.Core.Path.{◌≡◌, refl, sym, ap}
 use mathlib.Core.List.{List, [], ◌∷◌}
 use contract.Lifetimes.{Lfts}
-use denote.Ref.{Bor}
+use denote.Ref.{Bor, MutBor}
 use Rattle.meaning.specs.Rules.{Rules}
 use Rattle.meaning.specs.Refusals.{Answer, good}
 use Rattle.meaning.specs.Sheet.{Sheet as Lists, sheet_of}
@@ -29,6 +29,9 @@ any_lft = ([], tt)
 
 abbrev lent : List ℕ → Bor (List ℕ)
 lent bytes = record { ref_ptr = (0, 0); now = bytes }
+
+abbrev lent_mut : List ℕ → MutBor (List ℕ)
+lent_mut bytes = record { ref_ptr = (0, 0); ghost_name = 0; now = bytes }
 
 -- Bytes that load have a fresh monitor.
 pub some_fresh : (bytes : List ℕ) (l : Lists) → sheet_of bytes ≡ good l → Fresh bytes (fresh (stored l))
@@ -61,7 +64,7 @@ module _ (sheet : List ℕ) (r : Rules) (l : Lists) (loads : sheet_of sheet ≡ 
   some_answer m w (saving buffer) o =
       let a = save_of m buffer in
       let after = buffer_after m buffer in
-      (left (saved_told a) after, a.monitor, wrote_too a after w, (any_lft, lent buffer, lent after, a, refl, (refl, refl), (refl, refl), refl))
+      (left (saved_told a) after, a.monitor, wrote_too a after w, (any_lft, lent_mut buffer, lent_mut after, a, refl, (refl, refl), (refl, refl), refl))
   some_answer m w (restoring bytes) o =
       let a = restore_of m bytes in (heard (restored_told a), a.monitor, w, (any_lft, lent bytes, a, refl, refl, (refl, refl), refl, o))
 

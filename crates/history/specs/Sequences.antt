@@ -2,7 +2,7 @@
 -- Assumes nothing.
 use Rattle.std.specs.Prelude.{ℕ, ◌+◌, ◌-◌, ◌≤◌, ◌<◌, ◌≡◌, true, false, cond, ◌⊎◌, ◌↔◌, List, [], ◌∷◌, eqb, leb, length, take, drop}
 use contract.Lifetimes.{Lfts}
-use Rattle.std.specs.Borrow.{Bor}
+use Rattle.std.specs.Borrow.{Bor, MutBor}
 use Rattle.meaning.specs.Rules.{Rules}
 use Rattle.meaning.specs.Refusals.{Answer, good}
 use Rattle.meaning.specs.Sheet.{Sheet as Lists, sheet_of, rules_of}
@@ -141,7 +141,7 @@ module _ (sheet : List ℕ) (r : Rules) where
   Answers m w counts x n v = (a : Counted) × counts_reads.Learnt tt (m, tt) a (m, tt) × Hands (heard (counted_told a)) a.monitor x n × (v ≡ w)
   Answers m w anew x n v = Fresh sheet n × (x ≡ silence) × (v ≡ w)
   Answers m w (saving buffer) x n v =
-      (κs : Lfts 1) × (lent after : Bor (List ℕ)) × (a : Saved)
+      (κs : Lfts 1) × (lent after : MutBor (List ℕ)) × (a : Saved)
       × (lent.now ≡ buffer) × save_reads.Learnt κs (m, (lent, tt)) a (m, (after, tt))
       × Hands (left (saved_told a) after.now) a.monitor x n × (v ≡ wrote_too a after.now w)
   Answers m w (restoring bytes) x n v =

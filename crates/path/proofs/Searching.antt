@@ -19,8 +19,9 @@ use Rattle.meaning.specs.Sheet
 use Rattle.laws.proofs.Quantifiers.{and_left, and_right, and_both}
 use Rattle.laws.proofs.Accepted.{walked, no_fault, accepted_walk}
 use Rattle.records.specs.declared.Frame.{Frame}
-use Rattle.records.specs.Frames.{frame_at, framed_at}
-use Rattle.records.proofs.Framing.{whole_says}
+use Rattle.records.specs.declared.Record.TheVariants.{Whole}
+use Rattle.records.specs.Frames.{frame_at, framed_at, answer}
+use Rattle.records.proofs.Framing.{whole_says, whole_told}
 use Rattle.faults.specs.Tallies.{payload_in}
 use Rattle.faults.proofs.Framed.{frame_inside, frame_next, frame_payload, frame_behind, frame_root}
 use Rattle.path.specs.declared.Span.{Span}
@@ -90,6 +91,12 @@ pub record Turn (bytes : List ℕ) (access : ℕ) (path : List ℕ) (best : Span
   pub search : Searching bytes access path best at
   pub more : at < length bytes
   pub says : framed_at bytes at ≡ good f
+
+-- the record that was read at this place makes a turn
+pub turns :
+    {bytes : List ℕ} {access : ℕ} {path : List ℕ} {best : Span} {at : ℕ} (f : Frame)
+    → Searching bytes access path best at → at < length bytes → answer (Whole f) ≡ framed_at bytes at → Turn bytes access path best at f
+turns f w l e = record { search = w; more = l; says = whole_told (Whole f) f e refl }
 
 module _ {bytes : List ℕ} {access : ℕ} {path : List ℕ} {best : Span} {at : ℕ} {f : Frame} (t : Turn bytes access path best at f) where
   abbrev w : Searching bytes access path best at

@@ -2,7 +2,7 @@
 -- Assumes nothing.
 use Rattle.std.specs.Prelude.{ℕ, ◌≡◌, List}
 use contract.Lifetimes.{Lfts}
-use Rattle.std.specs.Borrow.{Bor}
+use Rattle.std.specs.Borrow.{Bor, MutBor}
 use Rattle.sheet.specs.declared.Sheet.{Sheet}
 use Rattle.sheet.proofs.load.Reads as load_reads
 use Rattle.sheet.proofs.Sheet.empty.Reads as empty_reads
@@ -36,12 +36,12 @@ PathsAskNothing =
 
 unfoldable pub MonitorsAskNothing : Type 1
 MonitorsAskNothing =
-    (s : Sheet) (m : Monitor) (n e : ℕ) (κs : Lfts 1) (bytes : Bor (List ℕ)) →
+    (s : Sheet) (m : Monitor) (n e : ℕ) (κs : Lfts 1) (bytes : Bor (List ℕ)) (lent : MutBor (List ℕ)) →
     (new_reads.Asked tt (s, tt) ≡ Unit {0})
     × (is_bad_reads.Asked tt (m, tt) ≡ Unit {0})
     × (begin_reads.Asked tt (m, tt) ≡ Unit {0})
     × (record_reads.Asked tt (m, (n, (e, tt))) ≡ Unit {0})
     × (check_reads.Asked tt (m, tt) ≡ Unit {0})
     × (counts_reads.Asked tt (m, tt) ≡ Unit {0})
-    × (save_reads.Asked κs (m, (bytes, tt)) ≡ Unit {0})
+    × (save_reads.Asked κs (m, (lent, tt)) ≡ Unit {0})
     × (restore_reads.Asked κs (m, (bytes, tt)) ≡ Unit {0})

@@ -4,7 +4,7 @@
 -- Assumes nothing.
 use Rattle.std.specs.Prelude.{ℕ, ◌≡◌, Bool, List}
 use contract.Lifetimes.{Lfts}
-use Rattle.std.specs.Borrow.{Bor}
+use Rattle.std.specs.Borrow.{Bor, MutBor}
 use Rattle.sheet.specs.declared.Sheet.{Sheet}
 use Rattle.sheet.specs.declared.Loaded.{Loaded}
 use Rattle.sheet.proofs.load.Reads as load_reads
@@ -39,8 +39,8 @@ abbrev pub OnePart : (Bor (List ℕ) → Type 0) → Type 0
 OnePart promise = (a b : Bor (List ℕ)) → promise a → promise b → (a.now ≡ b.now) × (a.ref_ptr.0 ≡ b.ref_ptr.0) × (a.ref_ptr.1 ≡ b.ref_ptr.1)
 
 -- at most one answer does, with one final content of the buffer
-abbrev pub OneLeft : {A : Type 0} → (A → Bor (List ℕ) → Type 0) → Type 0
-OneLeft {A} promise = (a b : A) (left-a left-b : Bor (List ℕ)) → promise a left-a → promise b left-b → (a ≡ b) × (left-a.now ≡ left-b.now)
+abbrev pub OneLeft : {A : Type 0} → (A → MutBor (List ℕ) → Type 0) → Type 0
+OneLeft {A} promise = (a b : A) (left-a left-b : MutBor (List ℕ)) → promise a left-a → promise b left-b → (a ≡ b) × (left-a.now ≡ left-b.now)
 
 -- SHEETS
 
@@ -93,7 +93,7 @@ CountsOne = (m : Monitor) → One (λ (a : Counted). counts_reads.Learnt tt (m, 
 -- IMAGES
 
 unfoldable pub SaveOne : Type 0
-SaveOne = (m : Monitor) (κs : Lfts 1) (lent : Bor (List ℕ)) → OneLeft (λ (a : Saved) (left : Bor (List ℕ)). save_reads.Learnt κs (m, (lent, tt)) a (m, (left, tt)))
+SaveOne = (m : Monitor) (κs : Lfts 1) (lent : MutBor (List ℕ)) → OneLeft (λ (a : Saved) (left : MutBor (List ℕ)). save_reads.Learnt κs (m, (lent, tt)) a (m, (left, tt)))
 
 unfoldable pub RestoreOne : Type 0
 RestoreOne = (m : Monitor) (κs : Lfts 1) (bytes : Bor (List ℕ)) → One (λ (a : Restored). restore_reads.Learnt κs (m, (bytes, tt)) a (m, (bytes, tt)))

@@ -1,0 +1,18 @@
+-- `image::reading::fine` meets its contract.
+-- Assumes nothing.
+use native.Mathlib.Omega.{arith}
+use Rattle.rows.proofs.Arms.{few_events}
+use Rattle.image.proofs.Saying.{not_beyond, allowed_over, fine_is}
+use Rattle.image.proofs.reading.fine.Goals as goal
+
+pub beyond-requires : goal.beyond-requires
+beyond-requires c = let h = few_events c.args.s c.requires in omega arith
+
+pub allowed-requires : goal.allowed-requires
+allowed-requires c = few_events c.args.s c.requires
+
+pub returns : goal.returns
+returns c =
+    let beyond = c.beyond in
+    rw (beyond.ensures, not_beyond c.args.s.events c.args.x, c.allowed.ensures, allowed_over c.args.s c.args.x)
+    (fine_is c.args.s c.args.x)

@@ -1,0 +1,51 @@
+-- `image::save` meets its contract.
+-- Assumes nothing.
+use Rattle.std.proofs.Common.{rules}
+use mathlib.Core.Path.{◌≡◌, sym, ◌∙◌}
+use mathlib.Core.Bool.{false}
+use native.Mathlib.Omega.{arith}
+use lib.ListN.{length}
+use Rattle.monitor.specs.Calls.{bad}
+use Rattle.monitor.proofs.States.{fit_of}
+use Rattle.meaning.specs.Limits.{kept_most}
+use Rattle.image.proofs.Saves.{saved_bad, too_short, saved_is}
+use Rattle.image.proofs.save.Goals as goal
+
+pub returns-then-is_bad : goal.returns-then-is_bad
+returns-then-is_bad c = saved_bad c.args.monitor c.args.out.now (sym c.is_bad.ensures ∙ c.if-is_bad.true)
+
+pub overflow_mul-length : goal.overflow_mul-length
+overflow_mul-length c = let q : bad c.args.monitor ≡ false = sym c.is_bad.ensures ∙ c.if-is_bad.false in let f = (fit_of c.args.monitor q).few in omega arith
+
+pub overflow_add-length : goal.overflow_add-length
+overflow_add-length c = let q : bad c.args.monitor ≡ false = sym c.is_bad.ensures ∙ c.if-is_bad.false in let f = (fit_of c.args.monitor q).few in omega arith
+
+pub returns-then-out-length : goal.returns-then-out-length
+returns-then-out-length c =
+    let is-bad = c.is_bad in
+    let if1 = c.if-is_bad in
+    let q : bad c.args.monitor ≡ false = sym is-bad.ensures ∙ if1.false in
+    let f = (fit_of c.args.monitor q).few in
+    let z : length c.args.monitor.sets ≡ kept_most = search rules in
+    too_short c.args.monitor (omega arith) c.args.out.now q c.if-out-length.true
+
+pub put-requires : goal.put-requires
+put-requires c =
+    let is-bad = c.is_bad in
+    let if1 = c.if-is_bad in
+    let if2 = c.if-out-length in
+    let q : bad c.args.monitor ≡ false = sym is-bad.ensures ∙ if1.false in
+    let f = (fit_of c.args.monitor q).few in
+    let z : length c.args.monitor.sets ≡ kept_most = search rules in
+    (omega arith, if2.false, z)
+
+pub returns : goal.returns
+returns c =
+    let is-bad = c.is_bad in
+    let if1 = c.if-is_bad in
+    let if2 = c.if-out-length in
+    let put = c.put in
+    let q : bad c.args.monitor ≡ false = sym is-bad.ensures ∙ if1.false in
+    let f = (fit_of c.args.monitor q).few in
+    let z : length c.args.monitor.sets ≡ kept_most = search rules in
+    saved_is c.args.monitor (omega arith) c.args.out.now _ q if2.false put.ensures

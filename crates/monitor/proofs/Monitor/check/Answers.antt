@@ -1,0 +1,39 @@
+-- `monitor::Monitor::check` meets its contract.
+-- Assumes nothing.
+use mathlib.Core.Path.{◌≡◌, sym, ◌∙◌}
+use mathlib.Core.Bool.{true, false}
+use native.Mathlib.Omega.{arith}
+use Rattle.monitor.proofs.States.{fit_of}
+use Rattle.monitor.specs.Calls.{bad, check_of}
+use Rattle.rows.proofs.Arms.{some_nodes, few_nodes}
+use Rattle.monitor.proofs.Monitor.check.Goals as goal
+
+pub returns-then-is_bad : goal.returns-then-is_bad
+unfolding check_of
+returns-then-is_bad c = let q : bad c.args.self ≡ true = sym c.is_bad.ensures ∙ c.if-is_bad.true in rw q
+
+pub row_now-row-requires : goal.row_now-row-requires
+row_now-row-requires c = fit_of c.args.self (sym c.is_bad.ensures ∙ c.if-is_bad.false)
+
+pub overflow_sub-self : goal.overflow_sub-self
+overflow_sub-self c =
+    let is-bad = c.is_bad in
+    let if1 = c.if-is_bad in
+    some_nodes c.args.self.sheet (fit_of c.args.self (sym is-bad.ensures ∙ if1.false)).sounds
+
+pub bit-allow-requires : goal.bit-allow-requires
+bit-allow-requires c =
+    let is-bad = c.is_bad in
+    let if1 = c.if-is_bad in
+    let a = some_nodes c.args.self.sheet (fit_of c.args.self (sym is-bad.ensures ∙ if1.false)).sounds in
+    let b = few_nodes c.args.self.sheet (fit_of c.args.self (sym is-bad.ensures ∙ if1.false)).sounds in
+    omega arith
+
+pub returns : goal.returns
+unfolding check_of
+returns c =
+    let is-bad = c.is_bad in
+    let if1 = c.if-is_bad in
+    let row_now = c.row_now-row in
+    let q : bad c.args.self ≡ false = sym is-bad.ensures ∙ if1.false in
+    rw (q, c.bit-allow.ensures, row_now.ensures)

@@ -1,0 +1,54 @@
+-- `monitor::Monitor::settled` meets its contract.
+-- Assumes nothing.
+use Prim.Native.Nat.{ℕ, ◌≤◌}
+use mathlib.Core.Path.{◌≡◌}
+use lib.ListN.{take}
+use native.Mathlib.Omega.{arith}
+use Rattle.sheet.specs.Sound.{rules_in}
+use Rattle.window.proofs.Moves.{run_le}
+use Rattle.meaning.specs.History.{let_go}
+use Rattle.monitor.specs.declared.Monitor.{Monitor}
+use Rattle.monitor.specs.Calls.{settled}
+use Rattle.monitor.proofs.Monitor.settled.Goals as goal
+
+pub front_closed-k-requires : goal.front_closed-k-requires
+front_closed-k-requires c = (c.requires.sounds, c.requires.few)
+
+-- no more are let go than are kept
+gone_few : (m : Monitor) (k : ℕ) → k ≡ let_go (rules_in m.sheet) (take m.kept m.sets) → k ≤ m.kept
+gone_few m k e = rw e (run_le (rules_in m.sheet) m.sets m.kept)
+
+pub row_before-before-requires : goal.row_before-before-requires
+row_before-before-requires c =
+    let fit = c.requires in
+    let l = gone_few c.args.self _ c.front_closed-k.ensures in
+    let h = fit.few in
+    omega arith
+
+pub moved_up-later-requires : goal.moved_up-later-requires
+moved_up-later-requires c = (gone_few c.args.self _ c.front_closed-k.ensures, c.requires.few)
+
+pub overflow_cast-self : goal.overflow_cast-self
+overflow_cast-self c =
+    let fit = c.requires in
+    let l = gone_few c.args.self _ c.front_closed-k.ensures in
+    let h = fit.few in
+    omega arith
+
+pub overflow_add-self : goal.overflow_add-self
+overflow_add-self c =
+    let fit = c.requires in
+    let l = gone_few c.args.self _ c.front_closed-k.ensures in
+    let e = fit.counted in
+    omega arith
+
+pub overflow_sub-self : goal.overflow_sub-self
+overflow_sub-self c = gone_few c.args.self _ c.front_closed-k.ensures
+
+pub returns : goal.returns
+unfolding settled
+returns c =
+    let up = c.moved_up-later in
+    let row_before = c.row_before-before in
+    let front_closed = c.front_closed-k in
+    rw (up.ensures.0, up.ensures.1, row_before.ensures, front_closed.ensures)

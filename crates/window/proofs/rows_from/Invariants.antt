@@ -1,0 +1,13 @@
+-- `window::rows_from` meets its contract. The loop's invariant: what is still to be made anew gives the same rows.
+-- Assumes nothing.
+use Prim.Native.Nat.{◌-◌}
+use mathlib.Core.Path.{◌≡◌}
+use Rattle.sheet.specs.Sound.{rules_in}
+use Rattle.window.specs.Kept.{refreshed}
+use Rattle.window.proofs.rows_from.Given as goal
+
+abbrev pub invariant-loop-j : goal.invariant-loop-j
+invariant-loop-j l = refreshed (rules_in l.s) l.carried l.sets l.initial.rows l.initial.j (l.kept - l.initial.j) ≡ refreshed (rules_in l.s) l.carried l.sets l.rows l.j (l.kept - l.j)
+
+abbrev pub decreases-loop-j : goal.decreases-loop-j
+decreases-loop-j l = l.kept - l.j
