@@ -9,17 +9,9 @@ use Rattle.meaning.specs.Rules.{Rules}
 use Rattle.meaning.specs.Refusals.{Answer, good}
 use Rattle.meaning.specs.Sheet.{Sheet as Lists, sheet_of}
 use Rattle.sheet.specs.Loads.{stored, answered}
-use Rattle.sheet.proofs.load.Reads as load_reads
 use Rattle.monitor.specs.declared.Monitor.{Monitor}
 use Rattle.monitor.specs.Calls.{fresh, begin_of, record_of, check_of, counts_of}
-use Rattle.monitor.proofs.Monitor.new.Reads as new_reads
-use Rattle.monitor.proofs.Monitor.begin.Reads as begin_reads
-use Rattle.monitor.proofs.Monitor.record.Reads as record_reads
-use Rattle.monitor.proofs.Monitor.check.Reads as check_reads
-use Rattle.monitor.proofs.Monitor.counts.Reads as counts_reads
 use Rattle.image.specs.Images.{save_of, buffer_after, restore_of}
-use Rattle.image.proofs.save.Reads as save_reads
-use Rattle.image.proofs.restore.Reads as restore_reads
 use Rattle.history.specs.Answers.{begun_told, recorded_told, checked_told, counted_told, saved_told, restored_told}
 use Rattle.history.specs.Sequences.{Call, begin, check, counts, anew, recording, saving, restoring, Heard, heard, left, silence, Hands, wrote_too, SavedBefore, Answers, Run, Fresh}
 

@@ -13,7 +13,7 @@ use Rattle.meaning.specs.Rules.{in_order}
 use Rattle.meaning.specs.Refusals.{Answer, good, refused}
 use Rattle.meaning.specs.Limits.{sheet_most}
 use Rattle.meaning.specs.Records.{kind_of}
-use Rattle.meaning.specs.Sheet.{Sheet, node, payload, Reading, nothing_read, after_record, tally, item_fault, item_at, fault, walk, with_nodes, sheet_of, rules_of, framed, behind}
+use Rattle.meaning.specs.Sheet.{Sheet, payload, Reading, nothing_read, after_record, tally, item_fault, item_at, fault, walk, with_nodes, sheet_of, rules_of, framed, behind}
 use Rattle.laws.proofs.Quantifiers.{every_if}
 use Rattle.laws.proofs.ByKind.{framed_known}
 use Rattle.laws.proofs.Lawful.{passes, Lawful, lawful_start, lawful_after}

@@ -19,7 +19,7 @@ use Rattle.meaning.specs.Rules.{Node, node_in_range}
 use Rattle.meaning.specs.Path.{well_formed}
 use Rattle.meaning.specs.Limits.{events_most, nodes_most, of_cause, of_root, of_node}
 use Rattle.meaning.specs.Sheet.{Root, Sheet, Item, count, cause, conflict, root, node, Known, kinds, kind_at, kind_number, root_in, node_in, item_of, Reading}
-use Rattle.meaning.specs.Sheet.{nothing_read, key_of, also, noted, after_record, Tally, tally, ascends, disordered, so_far, pair_in_range, in_range, root_formed, item_fault, fault, behind}
+use Rattle.meaning.specs.Sheet.{nothing_read, key_of, also, noted, after_record, Tally, tally, ascends, disordered, so_far, pair_in_range, in_range, root_formed, item_fault}
 use Rattle.laws.proofs.Quantifiers.{or_cases, and_left, and_right}
 use Rattle.laws.proofs.Chains.{Listed, Upward}
 use Rattle.laws.proofs.Ordered.{ascends_trans, ascends_not, first_only, later, upward, key_ascends}

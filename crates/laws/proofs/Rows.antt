@@ -16,7 +16,6 @@ use borrow.Author.Tests.{lt-ltb, ltb-true}
 use Rattle.meaning.specs.Sets.{some, mem, set_of}
 use Rattle.meaning.specs.Rules.{Node, Rules, node_in_range, in_order}
 use Rattle.meaning.specs.Policy.{Formula, session, holds, formula_of, formulas, node_holds, row}
-use Rattle.meaning.specs.Policy
 use Rattle.meaning.specs.Steps.{node_bit, row_to, next_row}
 use Rattle.laws.proofs.Quantifiers.{and_left, and_right, every_each}
 use Rattle.laws.proofs.SetLaws.{mem_zero, mem_set_of}

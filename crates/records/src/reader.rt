@@ -1,5 +1,4 @@
-// Reading a sheet by holding it. The borrow checker covers no function that holds a reader: each is proved by a walk, so the work is left to
-// `step_at`, which is covered.
+// Reading a sheet by holding it: thin functions over `step_at`.
 ghost use Rattle.std.specs.Prelude.{◌≡◌};
 ghost use Rattle.records.specs.Frames.{framed_at, answer};
 

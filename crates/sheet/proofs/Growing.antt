@@ -12,7 +12,7 @@ use lib.Dec.{eqb, ltb}
 use lib.ListN.{length, get_or, set, length-append, get_or-append, get_or-eq_default}
 use lib.Seq.{get_or_at}
 use borrow.Author.Tests.{eqb-true, eqb-false, eq-eqb, ne_eqb, ltb-true, ltb-false}
-use Rattle.meaning.specs.Limits.{events_most, nodes_most, node_kinds_end, of_count, of_cause, of_conflict, of_node}
+use Rattle.meaning.specs.Limits.{events_most, nodes_most, node_kinds_end, of_node}
 use Rattle.meaning.specs.Sets.{set_of}
 use Rattle.meaning.specs.Rules.{Node}
 use Rattle.meaning.specs.Events.{some_pair, chain, needed_by, conflicting_with}
@@ -26,7 +26,6 @@ use Rattle.laws.proofs.Chains.{Listed, Upward}
 use Rattle.laws.proofs.ByKind.{known_cases}
 use Rattle.laws.proofs.Lawful.{passed, Lawful, lawful_after}
 use Rattle.laws.proofs.Ordered.{first_only}
-use Rattle.sheet.specs.declared.Sheet.{Sheet}
 use Rattle.sheet.specs.Loads.{table_of, kind_of_node, left_of, right_of, stored}
 use Rattle.sheet.specs.ByRecord.{with_cause, with_conflict, put_record}
 use Rattle.sheet.proofs.Tables.{table_at, table_ext, table_set}

@@ -7,12 +7,10 @@ use mathlib.Core.List.{List}
 use native.Mathlib.Omega.{arith}
 use lib.ListN.{length, drop}
 use Rattle.meaning.specs.Refusals.{good, refused}
-use Rattle.meaning.specs.Limits.{sheet_most}
 use Rattle.meaning.specs.Records.{kind_of}
 use Rattle.meaning.specs.Sheet.{Known, payload, item_of, nothing_read, framed, item_fault, so_far, kind_at, tally, walk}
 use Rattle.meaning.specs.Sheet
 use Rattle.records.specs.declared.Frame.{Frame}
-use Rattle.records.specs.declared.Record.TheVariants.{Whole}
 use Rattle.records.specs.Frames.{frame_at, framed_at}
 use Rattle.records.proofs.Framing.{whole_says}
 use Rattle.faults.specs.declared.Tally.{Tally}

@@ -1,6 +1,5 @@
 -- `events::apart` meets its contract. The loop's invariant: the events below e pass exactly if `ok` says so.
 -- Assumes nothing.
-use Prim.Native.Nat.{◌-◌}
 use mathlib.Core.Path.{◌≡◌, refl}
 use native.Mathlib.Omega.{arith}
 use native.Mathlib.Numerals.{add-one}

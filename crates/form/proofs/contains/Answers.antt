@@ -1,7 +1,6 @@
 -- `form::contains` meets its contract. The loop's invariant: what is left of the slice has the byte exactly if all of it has.
 -- Assumes nothing.
 use Rattle.std.proofs.Common.{rules}
-use Prim.Native.Nat.{◌-◌}
 use mathlib.Core.Path.{sym, ◌∙◌}
 use Rattle.form.proofs.Cuts.{contains_here, contains_later, contains_nowhere}
 use Rattle.form.proofs.contains.Goals as goal

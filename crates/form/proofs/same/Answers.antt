@@ -1,7 +1,6 @@
 -- `form::same` meets its contract. The loop's invariant: what is left of both is the same exactly if both are.
 -- Assumes nothing.
 use Rattle.std.proofs.Common.{rules}
-use Prim.Native.Nat.{◌-◌}
 use mathlib.Core.Path.{sym, ◌∙◌}
 use native.Mathlib.Omega.{arith}
 use Rattle.form.proofs.Cuts.{same_differs, same_later, same_end, same_length}

@@ -1,6 +1,5 @@
 -- `form::segment_end` meets its contract. The loop's invariant: the bytes from a to e have no "/".
 -- Assumes nothing.
-use Prim.Native.Nat.{◌-◌}
 use native.Mathlib.Omega.{arith}
 use Rattle.form.proofs.Cuts.{up_to_here, up_to_later, up_to_end}
 use Rattle.form.proofs.segment_end.Goals as goal

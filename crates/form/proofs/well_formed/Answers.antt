@@ -1,6 +1,6 @@
 -- `form::well_formed` meets its contract. The loop's invariant: the path is well formed exactly if each segment from a on is one that may be.
 -- Assumes nothing.
-use Prim.Native.Nat.{◌+◌, ◌-◌}
+use Prim.Native.Nat.{◌+◌}
 use mathlib.Core.Path.{sym, ap, ◌∙◌}
 use mathlib.Core.Bool.{Bool, ◌&&◌}
 use native.Mathlib.Omega.{arith}

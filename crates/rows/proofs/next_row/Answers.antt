@@ -1,6 +1,6 @@
 -- `rows::next_row` meets its contract. The loop's invariant: the row is that of the first n nodes.
 -- Assumes nothing.
-use Prim.Native.Nat.{◌<◌, ◌-◌}
+use Prim.Native.Nat.{◌<◌}
 use mathlib.Core.Path.{◌≡◌, refl, ap, ◌∙◌}
 use native.Mathlib.Omega.{arith}
 use native.Mathlib.Numerals.{add-one}

@@ -1,7 +1,6 @@
 -- `sheet::load` meets its contract. The loop's invariant: what was kept and tallied stands for the lists so far, and what is left of the sheet
 -- decides the rest.
 -- Assumes nothing.
-use Prim.Native.Nat.{◌-◌}
 use mathlib.Core.Path.{refl, sym, ◌∙◌}
 use native.Mathlib.Omega.{arith}
 use Rattle.records.proofs.Framing.{broken_says, broken_told, whole_told}

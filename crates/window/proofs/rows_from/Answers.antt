@@ -1,6 +1,5 @@
 -- `window::rows_from` meets its contract. The loop's invariant: what is still to be made anew gives the same rows.
 -- Assumes nothing.
-use Prim.Native.Nat.{◌-◌}
 use mathlib.Core.Path.{refl, sym, ◌∙◌}
 use native.Mathlib.Omega.{arith}
 use Rattle.sheet.specs.Sound.{rules_in}

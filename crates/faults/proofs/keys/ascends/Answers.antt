@@ -1,7 +1,6 @@
 -- `faults::keys::ascends` meets its contract. The loop's invariant: what is left of both is in the order in which both are.
 -- Assumes nothing.
 use Rattle.std.proofs.Common.{rules}
-use Prim.Native.Nat.{◌-◌}
 use mathlib.Core.Path.{sym, ◌∙◌}
 use Rattle.faults.proofs.Order.{from_less, from_more, from_equal, from_prefix, from_end}
 use Rattle.faults.proofs.keys.ascends.Goals as goal

@@ -1,11 +1,9 @@
 -- `image::reading::sessions_headed` meets its contract. The loop's invariant: all begin as they should exactly if those from place j on do.
 -- Assumes nothing.
-use Prim.Native.Nat.{◌-◌}
 use mathlib.Core.Path.{◌≡◌, sym, ◌∙◌}
 use mathlib.Core.Bool.{true, false}
 use native.Mathlib.Omega.{arith}
 use lib.ListN.{drop}
-use borrow.Author.Tests.{not-true}
 use Rattle.meaning.specs.Limits.{session_kind}
 use Rattle.meaning.specs.Image.{headed}
 use Rattle.image.specs.Parts.{image_length}

@@ -1,6 +1,5 @@
 -- `image::reading::sets_in` meets its contract. The loop's invariant: the first j sets are in their places, the others hold 0.
 -- Assumes nothing.
-use Prim.Native.Nat.{◌-◌}
 use mathlib.Core.Path.{◌≡◌, refl, sym, ◌∙◌}
 use native.Mathlib.Omega.{arith}
 use lib.ListN.{length}

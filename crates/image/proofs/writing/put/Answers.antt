@@ -1,6 +1,6 @@
 -- `image::writing::put` meets its contract. The loop's invariant: the first i bytes are the image's, the others are as they were.
 -- Assumes nothing.
-use Prim.Native.Nat.{ℕ, ◌-◌}
+use Prim.Native.Nat.{ℕ}
 use mathlib.Core.Path.{◌≡◌, refl, ap, ◌∙◌}
 use mathlib.Core.List.{◌++◌}
 use native.Mathlib.Omega.{arith}

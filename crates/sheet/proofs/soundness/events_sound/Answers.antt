@@ -1,6 +1,6 @@
 -- `sheet::soundness::events_sound` meets its contract. The loop's invariant: the events below e are sound exactly if `ok` says so.
 -- Assumes nothing.
-use Prim.Native.Nat.{ℕ, ◌-◌}
+use Prim.Native.Nat.{ℕ}
 use mathlib.Core.Path.{◌≡◌, refl, ap, ◌∙◌}
 use native.Mathlib.Omega.{arith}
 use native.Mathlib.Numerals.{add-one}

@@ -1,6 +1,5 @@
 -- `sheet::soundness::nodes_sound` meets its contract. The loop's invariant: the nodes below n are sound exactly if `ok` says so.
 -- Assumes nothing.
-use Prim.Native.Nat.{◌-◌}
 use mathlib.Core.Path.{◌≡◌, refl}
 use native.Mathlib.Omega.{arith}
 use native.Mathlib.Numerals.{add-one}
