@@ -13,7 +13,7 @@ pub type Buffer = [u8; ROOM];
 
 // Adds one byte. A full buffer is written first.
 pub fn byte<W: Write>(to: &mut W, out: &mut Buffer, at: &mut usize, b: u8) -> io::Result<()>
-    ensures err { OnErr result (ROOM ≤ at.new) }
+    ensures err { OnErr result ((ROOM ≤ at.old) × (at.new ≡ at.old)) }
     ensures kept { OnErr result (out.new ≡ out.old) }
 {
     let n = *at;
@@ -41,6 +41,7 @@ pub fn bytes<W: Write>(to: &mut W, out: &mut Buffer, at: &mut usize, s: &[u8]) -
 pub fn flush<W: Write>(to: &mut W, out: &mut Buffer, at: &mut usize) -> io::Result<()>
     ensures ok { OnOk result (at.new ≡ 0) }
     ensures err { OnErr result (at.new ≡ at.old) }
+    ensures kept { out.new ≡ out.old }
 {
     to.write_all(text::front(out, *at))?;
     *at = 0;

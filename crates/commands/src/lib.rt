@@ -1,8 +1,10 @@
 // Runs the library on commands: takes the input line by line, and writes one line for each command. A line is run by `lines`.
 #![tactic(auto)]
 
+ghost use Rattle.std.specs.Prelude.{◌≡◌, ◌≤◌, ◌⊎◌, OnErr};
+
 use answers::buffer;
-use answers::buffer::Buffer;
+use answers::buffer::{Buffer, ROOM as ANSWERS};
 use lines::State;
 use std::io;
 use std::io::{Read, Write};
@@ -36,7 +38,9 @@ fn finish<W: Write>(
     to: &mut W,
     out: &mut Buffer,
     at: &mut usize,
-) -> io::Result<State> {
+) -> io::Result<State>
+    ensures err { OnErr result (ANSWERS ≤ at.new) }
+{
     if line.len() == 0 {
         return Ok(state);
     }
@@ -59,7 +63,9 @@ fn feed<W: Write>(
     to: &mut W,
     out: &mut Buffer,
     at: &mut usize,
-) -> io::Result<State> {
+) -> io::Result<State>
+    ensures err { OnErr result (ANSWERS ≤ at.new) }
+{
     let mut rest = piece;
     while 0 < rest.len() {
         let e = text::until(rest, b'\n');
@@ -83,7 +89,9 @@ fn more<R: Read, W: Write>(
     to: &mut W,
     out: &mut Buffer,
     at: &mut usize,
-) -> io::Result<usize> {
+) -> io::Result<usize>
+    ensures err { OnErr result ((at.new ≡ at.old) ⊎ (at.new ≡ 0)) }
+{
     buffer::flush(to, out, at)?;
     from.read(piece)
 }

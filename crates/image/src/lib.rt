@@ -12,14 +12,14 @@ mod writing;
 
 use reading::Header;
 
-#[derive(Drop)]
+#[derive(Clone, Copy)]
 pub struct Saved {
     pub monitor: Monitor,
     pub number: u32,
     pub length: usize,
 }
 
-#[derive(Drop)]
+#[derive(Clone, Copy)]
 pub struct Restored {
     pub monitor: Monitor,
     pub number: u32,

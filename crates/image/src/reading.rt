@@ -11,7 +11,7 @@ use crate::numbers;
 use sheet::Sheet;
 
 // What the front of an image says: total, let go and the row carried; or nothing, where the image is not of the form.
-#[derive(Drop)]
+#[derive(Clone, Copy)]
 pub enum Header {
     Says(u32, u32, u64),
     Wrong,

@@ -13,7 +13,7 @@ use std::io::Write;
 use text::{Hex, Number32};
 
 // The bytes of the last sheet and how many there are, accepted or not; and the monitor at hand, all zeros until a sheet was accepted.
-#[derive(Drop)]
+#[derive(Clone, Copy)]
 pub struct State {
     pub sheet: [u8; text::BYTES],
     pub len: usize,

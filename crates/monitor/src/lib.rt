@@ -26,20 +26,20 @@ pub struct Monitor {
     pub rows: [u64; Monitor::KEPT],
 }
 
-#[derive(Drop)]
+#[derive(Clone, Copy)]
 pub struct Begun {
     pub monitor: Monitor,
     pub number: u32,
     pub session: u32,
 }
 
-#[derive(Drop)]
+#[derive(Clone, Copy)]
 pub struct Recorded {
     pub monitor: Monitor,
     pub number: u32,
 }
 
-#[derive(Drop)]
+#[derive(Clone, Copy)]
 pub struct Checked {
     pub monitor: Monitor,
     pub number: u32,
@@ -47,7 +47,7 @@ pub struct Checked {
     pub row: u64,
 }
 
-#[derive(Drop)]
+#[derive(Clone, Copy)]
 pub struct Counted {
     pub monitor: Monitor,
     pub number: u32,

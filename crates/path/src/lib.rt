@@ -12,7 +12,7 @@ use records::{Frame, Record};
 use sheet::load;
 
 // Where a root's path stands in the sheet, and its event; a length of 0 is no root.
-#[derive(Drop)]
+#[derive(Clone, Copy)]
 pub struct Span {
     pub at: usize,
     pub len: usize,
@@ -20,14 +20,14 @@ pub struct Span {
 }
 
 // What a path is found to be: under a root, or refused by its number.
-#[derive(Drop)]
+#[derive(Clone, Copy)]
 pub enum Found {
     Under(Span),
     Refused(u32),
 }
 
 // The event question's answer: the number of the refusal and 0, or 0 and the event.
-#[derive(Drop)]
+#[derive(Clone, Copy)]
 pub struct Event {
     pub number: u32,
     pub event: u8,

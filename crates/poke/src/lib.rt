@@ -24,7 +24,7 @@ enum Field {
 }
 
 // The monitor afterwards, and whether the words named a place of a field and a number; if not, the monitor is as it was.
-#[derive(Drop)]
+#[derive(Clone, Copy)]
 pub struct Poked {
     pub monitor: Monitor,
     pub known: bool,

@@ -19,7 +19,7 @@ pub struct Frame {
     pub next: usize,
 }
 
-#[derive(Drop)]
+#[derive(Clone, Copy)]
 pub enum Record {
     Whole(Frame),
     Broken,

@@ -5,7 +5,7 @@ ghost use Rattle.records.specs.Frames.{framed_at, answer};
 use crate::{Record, step_at};
 
 // A reader holds the sheet's bytes and its place in them.
-#[derive(Drop)]
+#[derive(Clone, Copy)]
 pub struct Reader<'a> {
     pub bytes: &'a [u8],
     pub at: usize,

@@ -28,7 +28,7 @@ pub struct Sheet {
 }
 
 // The loaded sheet and 0; or the number of the refusal, and a sheet whose every number is 0.
-#[derive(Drop)]
+#[derive(Clone, Copy)]
 pub struct Loaded {
     pub number: u32,
     pub sheet: Sheet,

@@ -5,28 +5,28 @@
 ghost use Rattle.std.specs.Prelude.{◌≤◌};
 
 // What a text says in hexadecimal: so many bytes, or nothing that can be read.
-#[derive(Drop)]
+#[derive(Clone, Copy)]
 pub enum Hex {
     Bytes(usize),
     Wrong,
 }
 
 // What a text says in decimal.
-#[derive(Drop)]
+#[derive(Clone, Copy)]
 pub enum Number {
     Is(u64),
     Wrong,
 }
 
 // What a text says in decimal, where the number is one of 32 bits.
-#[derive(Drop)]
+#[derive(Clone, Copy)]
 pub enum Number32 {
     Is(u32),
     Wrong,
 }
 
 // What two hexadecimal digits say.
-#[derive(Drop)]
+#[derive(Clone, Copy)]
 enum Pair {
     Byte(u8),
     Wrong,

@@ -11,7 +11,7 @@ ghost use Rattle.window.specs.Kept.{row_before, refreshed, moved};
 use sheet::Sheet;
 
 // The sets and rows of the kept sessions.
-#[derive(Drop)]
+#[derive(Clone, Copy)]
 pub struct Places {
     pub sets: [u32; limits::KEPT],
     pub rows: [u64; limits::KEPT],
