@@ -11,7 +11,7 @@ SEED ?= 1
 COUNT ?= 1000000
 
 soak:
-	cd crates/drive && rt run </dev/null
+	cd crates/drive && rt run </dev/null >/dev/null
 	bash tools/place
 	cargo build --quiet --release --offline --manifest-path second/Cargo.toml
 	second/target/release/soak $(SEED) $(COUNT) target/bin/drive
