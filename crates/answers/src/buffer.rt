@@ -1,7 +1,9 @@
 // What is written is gathered in a buffer, of which the first bytes up to at are still to be written. It is handed over when the buffer is full, and by
 // `flush`: so many lines that come at once ask the system only now and then. Only a write can fail, and that needs a full buffer or `flush`: what was to
 // be written is then still there.
-ghost use Rattle.std.specs.Prelude.{◌≡◌, ◌≤◌, OnOk, OnErr};
+ghost use Rattle.std.specs.Prelude.{◌≡◌, ◌≤◌, [], ◌∷◌, OnOk, OnErr};
+ghost use Rattle.std.specs.Io.KnownBytes.{Keeps, Appends};
+ghost use Rattle.answers.specs.Gathered.{gathered};
 
 use std::io;
 use std::io::Write;
@@ -13,6 +15,9 @@ pub type Buffer = [u8; ROOM];
 
 // Adds one byte. A full buffer is written first.
 pub fn byte<W: Write>(to: &mut W, out: &mut Buffer, at: &mut usize, b: u8) -> io::Result<()>
+    ensures ok { OnOk result
+        (Appends (gathered (W.contents to.old) out.old at.old)
+        (gathered (W.contents to.new) out.new at.new) (b ∷ [])) }
     ensures err { OnErr result ((ROOM ≤ at.old) × (at.new ≡ at.old)) }
     ensures kept { OnErr result (out.new ≡ out.old) }
 {
@@ -29,6 +34,9 @@ pub fn byte<W: Write>(to: &mut W, out: &mut Buffer, at: &mut usize, b: u8) -> io
 }
 
 pub fn bytes<W: Write>(to: &mut W, out: &mut Buffer, at: &mut usize, s: &[u8]) -> io::Result<()>
+    ensures ok { OnOk result
+        (Appends (gathered (W.contents to.old) out.old at.old)
+        (gathered (W.contents to.new) out.new at.new) s.now) }
     ensures err { OnErr result (ROOM ≤ at.new) }
 {
     for b in s {
@@ -39,7 +47,10 @@ pub fn bytes<W: Write>(to: &mut W, out: &mut Buffer, at: &mut usize, s: &[u8]) -
 
 // Writes what waits in the buffer.
 pub fn flush<W: Write>(to: &mut W, out: &mut Buffer, at: &mut usize) -> io::Result<()>
-    ensures ok { OnOk result (at.new ≡ 0) }
+    ensures ok { OnOk result
+        (Keeps (gathered (W.contents to.old) out.old at.old)
+        (gathered (W.contents to.new) out.new at.new)) }
+    ensures empty { OnOk result (at.new ≡ 0) }
     ensures err { OnErr result (at.new ≡ at.old) }
     ensures kept { out.new ≡ out.old }
 {

@@ -2,7 +2,7 @@
 // that a caller has nothing to show first.
 #![tactic(auto)]
 
-ghost use Rattle.std.specs.Prelude.{◌≤◌};
+ghost use Rattle.std.specs.Prelude.{◌≡◌, ◌≤◌, take};
 
 // What a text says in hexadecimal: so many bytes, or nothing that can be read.
 #[derive(Clone, Copy)]
@@ -33,7 +33,9 @@ enum Pair {
 }
 
 // The first n bytes of s, or all of it where it has fewer.
-pub fn front(s: &[u8], n: usize) -> &[u8] {
+pub fn front(s: &[u8], n: usize) -> &[u8]
+    ensures { result.now ≡ take n s.now }
+{
     if n <= s.len() {
         return &s[0..n];
     }

@@ -1,0 +1,10 @@
+-- `answers::buffer::bytes` meets its contract. The loop's invariant: what was gathered grew by the bytes so far.
+-- Assumes nothing.
+use Rattle.std.proofs.Common.{take}
+use Rattle.std.specs.Io.KnownBytes.{Appends}
+use Rattle.answers.specs.Gathered.{gathered}
+use Rattle.answers.proofs.buffer.bytes.Given as goal
+
+abbrev pub invariant-loop-b : goal.invariant-loop-b
+invariant-loop-b g l =
+    Appends (gathered (g.W.Write.contents l.initial.to) l.initial.out l.initial.at) (gathered (g.W.Write.contents l.to) l.out l.at) (take l.b-index l.s)
