@@ -333,3 +333,11 @@ module _ {bytes : List ℕ} {access : ℕ} {path : List ℕ} {best : Span} {at :
           (and_both right_access covering (eq-eqb (get_or bytes f.start 0) access worth_says.1)
           (covers_agrees bytes path a m (m_inside is_root) fits.2 agree ∙ e))
           ∙ replaced ∙ new_is)
+
+-- and where it was found worth a look its path lies inside the sheet, and is no longer than the one that is asked for
+pub room :
+    {bytes : List ℕ} {access : ℕ} {path : List ℕ} {best : Span} {at : ℕ} (f : Frame)
+    → Searching bytes access path best at → at < length bytes → answer (Whole f) ≡ framed_at bytes at
+    → (b : Bool) → b ≡ worth_it bytes f access (length path) best.len → b ≡ true
+    → (2 + root_least ≤ f.len) × (f.start + f.len ≤ length bytes) × (f.len - 2 ≤ length path)
+room f w l e b q t = fits (turns f w l e) (sym q ∙ t)

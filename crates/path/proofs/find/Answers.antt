@@ -4,7 +4,7 @@
 use mathlib.Core.Path.{sym, ◌∙◌}
 use native.Mathlib.Omega.{arith}
 use Rattle.records.proofs.Framing.{broken_says, broken_told}
-use Rattle.path.proofs.Searching.{begins, ended, broken, turns, f_root, f_next, not_worth, fits, differs, no_edge, wins}
+use Rattle.path.proofs.Searching.{begins, ended, broken, turns, room, f_root, f_next, not_worth, differs, no_edge, wins}
 use Rattle.path.proofs.find.Goals as goal
 
 pub roots-init : goal.roots-init
@@ -26,45 +26,27 @@ roots-preserved-then-not-worth c =
 
 pub overflow_add-e : goal.overflow_add-e
 overflow_add-e c =
-    let t = turns c.in-Whole.f c.roots.invariant.1 c.roots-test.true c.in-Whole.ensures in
-    let w = sym c.worth.ensures ∙ c.if-not-worth.false in
-    let k = fits t w in
-    omega arith
+    let k = room c.in-Whole.f c.roots.invariant.1 c.roots-test.true c.in-Whole.ensures _ c.worth.ensures c.if-not-worth.false in omega arith
 
 pub overflow_add-a : goal.overflow_add-a
 overflow_add-a c =
-    let t = turns c.in-Whole.f c.roots.invariant.1 c.roots-test.true c.in-Whole.ensures in
-    let w = sym c.worth.ensures ∙ c.if-not-worth.false in
-    let k = fits t w in
-    omega arith
+    let k = room c.in-Whole.f c.roots.invariant.1 c.roots-test.true c.in-Whole.ensures _ c.worth.ensures c.if-not-worth.false in omega arith
 
 pub overflow_sub-m : goal.overflow_sub-m
 overflow_sub-m c =
-    let t = turns c.in-Whole.f c.roots.invariant.1 c.roots-test.true c.in-Whole.ensures in
-    let w = sym c.worth.ensures ∙ c.if-not-worth.false in
-    let k = fits t w in
-    omega arith
+    let k = room c.in-Whole.f c.roots.invariant.1 c.roots-test.true c.in-Whole.ensures _ c.worth.ensures c.if-not-worth.false in omega arith
 
 pub overflow_add-a-in-loop-k : goal.overflow_add-a-in-loop-k
 overflow_add-a-in-loop-k c =
-    let t = turns c.in-Whole.f c.roots.invariant.1 c.roots-test.true c.in-Whole.ensures in
-    let w = sym c.worth.ensures ∙ c.if-not-worth.false in
-    let k = fits t w in
-    omega arith
+    let k = room c.in-Whole.f c.roots.invariant.1 c.roots-test.true c.in-Whole.ensures _ c.worth.ensures c.if-not-worth.false in omega arith
 
 pub bounds-sheet-a : goal.bounds-sheet-a
 bounds-sheet-a c =
-    let t = turns c.in-Whole.f c.roots.invariant.1 c.roots-test.true c.in-Whole.ensures in
-    let w = sym c.worth.ensures ∙ c.if-not-worth.false in
-    let k = fits t w in
-    omega arith
+    let k = room c.in-Whole.f c.roots.invariant.1 c.roots-test.true c.in-Whole.ensures _ c.worth.ensures c.if-not-worth.false in omega arith
 
 pub bounds-path-k : goal.bounds-path-k
 bounds-path-k c =
-    let t = turns c.in-Whole.f c.roots.invariant.1 c.roots-test.true c.in-Whole.ensures in
-    let w = sym c.worth.ensures ∙ c.if-not-worth.false in
-    let k = fits t w in
-    omega arith
+    let k = room c.in-Whole.f c.roots.invariant.1 c.roots-test.true c.in-Whole.ensures _ c.worth.ensures c.if-not-worth.false in omega arith
 
 pub roots-smaller-then-sheet-a : goal.roots-smaller-then-sheet-a
 roots-smaller-then-sheet-a c =
@@ -80,17 +62,11 @@ roots-preserved-then-sheet-a c =
 
 pub edge_at-requires : goal.edge_at-requires
 edge_at-requires c =
-    let t = turns c.in-Whole.f c.roots.invariant.1 c.roots-test.true c.in-Whole.ensures in
-    let w = sym c.worth.ensures ∙ c.if-not-worth.false in
-    let k = fits t w in
-    omega arith
+    let k = room c.in-Whole.f c.roots.invariant.1 c.roots-test.true c.in-Whole.ensures _ c.worth.ensures c.if-not-worth.false in omega arith
 
 pub bounds-sheet-e : goal.bounds-sheet-e
 bounds-sheet-e c =
-    let t = turns c.in-Whole.f c.roots.invariant.1 c.roots-test.true c.in-Whole.ensures in
-    let w = sym c.worth.ensures ∙ c.if-not-worth.false in
-    let k = fits t w in
-    omega arith
+    let k = room c.in-Whole.f c.roots.invariant.1 c.roots-test.true c.in-Whole.ensures _ c.worth.ensures c.if-not-worth.false in omega arith
 
 pub roots-smaller-then-edge_at : goal.roots-smaller-then-edge_at
 roots-smaller-then-edge_at c =
