@@ -31,6 +31,24 @@ front_in : Answer Front → Front
 front_in (good f) = f
 front_in (refused n) = record { total = 0; gone = 0; carried = 0 }
 
+-- an image of the form has its sessions in its bytes, and not too many
+pub record Formed (s : List ℕ) : Type 0 where
+  pub long : header_length ≤ length s
+  pub whole : image_length ((length s - header_length) / session_length) ≤ length s
+  pub kept_is : (length s - header_length) / session_length ≡ kept_in s
+  pub few : (length s - header_length) / session_length ≤ kept_most
+
+pub formed : (s : List ℕ) → misshapen kept_most s ≡ false → Formed s
+unfolding misshapen kept_in
+formed s e =
+    let a = (or_false _ _ e).0 in
+    let b = (or_false _ _ a).0 in
+    let c = or_false _ _ b in
+    let d = (or_false _ _ c.0).0 in
+    let f = (or_false _ _ d).0 in
+    let l = ltb-false (length s) header_length (or_false _ _ f).0 in
+    record { long = l; whole = omega arith; kept_is = refl; few = ltb-false kept_most ((length s - header_length) / session_length) c.1 }
+
 module _ (s : List ℕ) (h : Header) (is : answer h ≡ front_of s) where
   -- a header that was not read: the image is not of the form
   pub header_wrong : h ≡ Wrong → misshapen kept_most s ≡ true
@@ -54,6 +72,9 @@ module _ (s : List ℕ) (h : Header) (is : answer h ≡ front_of s) where
     unfolding answer front_of front_in
     says = ap front_in (sym (ap answer e) ∙ is) ∙ rw header_formed
 
+    pub shape : Formed s
+    shape = formed s header_formed
+
     pub total_is : total ≡ (said s).total
     total_is = ap (λ (f : Front). f.total) says
 
@@ -62,24 +83,6 @@ module _ (s : List ℕ) (h : Header) (is : answer h ≡ front_of s) where
 
     pub carried_is : carried ≡ (said s).carried_row
     carried_is = ap (λ (f : Front). f.carried) says
-
--- an image of the form has its sessions in its bytes, and not too many
-pub record Formed (s : List ℕ) : Type 0 where
-  pub long : header_length ≤ length s
-  pub whole : image_length ((length s - header_length) / session_length) ≤ length s
-  pub kept_is : (length s - header_length) / session_length ≡ kept_in s
-  pub few : (length s - header_length) / session_length ≤ kept_most
-
-pub formed : (s : List ℕ) → misshapen kept_most s ≡ false → Formed s
-unfolding misshapen kept_in
-formed s e =
-    let a = (or_false _ _ e).0 in
-    let b = (or_false _ _ a).0 in
-    let c = or_false _ _ b in
-    let d = (or_false _ _ c.0).0 in
-    let f = (or_false _ _ d).0 in
-    let l = ltb-false (length s) header_length (or_false _ _ f).0 in
-    record { long = l; whole = omega arith; kept_is = refl; few = ltb-false kept_most ((length s - header_length) / session_length) c.1 }
 
 module _ (m : Monitor) (s : List ℕ) where
   pub restored_bad : bad m ≡ true → record { monitor = m; number = 20 } ≡ restore_of m s

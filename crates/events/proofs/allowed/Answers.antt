@@ -33,7 +33,6 @@ loop-e-preserved c = (omega arith, rw (add-one, c.fits.ensures, c.has.ensures, c
 pub returns : goal.returns
 unfolding allowed rules_over
 returns c =
-    let start = c in
-    let r = rules_over start.args.needs.now start.args.conflicts.now start.args.n in
-    let q : c.loop-e.e ≡ start.args.n = omega arith in
-    c.loop-e.invariant.1 ∙ ap (λ (k : ℕ). every k (λ i. not (mem i start.args.x) || (possible r i start.args.x && supported r i start.args.x))) q
+    let r = rules_over c.args.needs.now c.args.conflicts.now c.args.n in
+    let q : c.loop-e.e ≡ c.args.n = omega arith in
+    c.loop-e.invariant.1 ∙ ap (λ (k : ℕ). every k (λ i. not (mem i c.args.x) || (possible r i c.args.x && supported r i c.args.x))) q

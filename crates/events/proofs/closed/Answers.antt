@@ -33,7 +33,6 @@ loop-e-preserved c = (omega arith, rw (add-one, c.fits.ensures, c.has.ensures, c
 pub returns : goal.returns
 unfolding closed rules_over
 returns c =
-    let start = c in
-    let r = rules_over start.args.needs.now start.args.conflicts.now start.args.n in
-    let q : c.loop-e.e ≡ start.args.n = omega arith in
-    c.loop-e.invariant.1 ∙ ap (λ (k : ℕ). every k (λ i. not (addable r i start.args.x))) q
+    let r = rules_over c.args.needs.now c.args.conflicts.now c.args.n in
+    let q : c.loop-e.e ≡ c.args.n = omega arith in
+    c.loop-e.invariant.1 ∙ ap (λ (k : ℕ). every k (λ i. not (addable r i c.args.x))) q

@@ -8,9 +8,7 @@ use Rattle.faults.proofs.malformed.Goals as goal
 
 pub returns-then-kind-eq-ROOT : goal.returns-then-kind-eq-ROOT
 returns-then-kind-eq-ROOT c =
-    let tail = c.tail in
-    let if1 = c.if-kind-eq-ROOT in
-    ap not (c.well_formed-then-kind-eq-ROOT.ensures ∙ ap well_formed tail.ensures ∙ sym (root_formed_lem c.args.kind c.args.p.now if1.true))
+    ap not (c.well_formed-then-kind-eq-ROOT.ensures ∙ ap well_formed c.tail.ensures ∙ sym (root_formed_lem c.args.kind c.args.p.now c.if-kind-eq-ROOT.true))
 
 pub returns : goal.returns
 returns c = ap not (sym (no_root c.args.p.now c.args.kind c.requires c.if-kind-eq-ROOT.false))

@@ -11,19 +11,13 @@ returns-then-s-t c = sym (same_length _ _ c.if-s-t.true)
 
 pub returns-then-s-i : goal.returns-then-s-i
 returns-then-s-i c =
-    let start = c in
-    let loop = c.loop-i in
-    let g = start.args in
-    let i = loop.i in
-    sym (loop.invariant.2 ∙ same_differs g.s.now g.t.now i (omega arith) (omega arith) c.if-s-i.true)
+    let i = c.loop-i.i in
+    sym (c.loop-i.invariant.2 ∙ same_differs c.args.s.now c.args.t.now i (omega arith) (omega arith) c.if-s-i.true)
 
 pub loop-i-preserved : goal.loop-i-preserved
 loop-i-preserved c =
-    let start = c in
-    let loop = c.loop-i in
-    let g = start.args in
-    let i = loop.i in
-    (search rules, search rules, loop.invariant.2 ∙ same_later g.s.now g.t.now i (omega arith) (omega arith) c.if-s-i.false)
+    let i = c.loop-i.i in
+    (search rules, search rules, c.loop-i.invariant.2 ∙ same_later c.args.s.now c.args.t.now i (omega arith) (omega arith) c.if-s-i.false)
 
 pub returns : goal.returns
 returns c = let g = c.args in sym (c.loop-i.invariant.2 ∙ same_end g.s.now g.t.now c.loop-i.i (omega arith) (omega arith))

@@ -21,72 +21,37 @@ pub slice_bounds-segment_ok-count : goal.slice_bounds-segment_ok-count
 slice_bounds-segment_ok-count c = omega arith
 
 pub slice_bounds-segment_ok-start : goal.slice_bounds-segment_ok-start
-slice_bounds-segment_ok-start c =
-    let start = c in
-    let loop = c.loop-a in
-    let loop-test = c.loop-a-test in
-    let p = start.args.p.now in
-    let a = loop.a in
-    let h = loop-test.true in
-    omega (arith, end_le p a h)
+slice_bounds-segment_ok-start c = omega (arith, end_le c.args.p.now c.loop-a.a c.loop-a-test.true)
 
 pub slice_bounds-segment_ok-end : goal.slice_bounds-segment_ok-end
-slice_bounds-segment_ok-end c =
-    let start = c in
-    let loop = c.loop-a in
-    let loop-test = c.loop-a-test in
-    let p = start.args.p.now in
-    let a = loop.a in
-    let h = loop-test.true in
-    omega (arith, end_le p a h)
+slice_bounds-segment_ok-end c = omega (arith, end_le c.args.p.now c.loop-a.a c.loop-a-test.true)
 
 pub returns-then-not-segment_ok : goal.returns-then-not-segment_ok
 returns-then-not-segment_ok c =
-    let start = c in
     let loop = c.loop-a in
-    let loop-test = c.loop-a-test in
     let segment-end = c.segment_end-e in
     let segment-ok = c.segment_ok in
-    let p = start.args.p.now in
+    let p = c.args.p.now in
     let a = loop.a in
-    let h = loop-test.true in
+    let h = c.loop-a-test.true in
     sym
     (loop.invariant.1 ∙ rest_after_lem p a h segment-end.result segment-ok.result segment-end.ensures segment-ok.ensures ∙ ap (λ (t : Bool). t && rest_ok p (segment-end.result + 1)) c.if-not-segment_ok.true)
 
 pub overflow_add-a : goal.overflow_add-a
-overflow_add-a c =
-    let start = c in
-    let loop = c.loop-a in
-    let loop-test = c.loop-a-test in
-    let p = start.args.p.now in
-    let a = loop.a in
-    let h = loop-test.true in
-    omega (arith, end_le p a h)
+overflow_add-a c = omega (arith, end_le c.args.p.now c.loop-a.a c.loop-a-test.true)
 
 pub loop-a-smaller : goal.loop-a-smaller
-loop-a-smaller c =
-    let start = c in
-    let loop = c.loop-a in
-    let loop-test = c.loop-a-test in
-    let p = start.args.p.now in
-    let a = loop.a in
-    let h = loop-test.true in
-    omega (arith, end_le p a h)
+loop-a-smaller c = omega (arith, end_le c.args.p.now c.loop-a.a c.loop-a-test.true)
 
 pub loop-a-preserved : goal.loop-a-preserved
 loop-a-preserved c =
-    let start = c in
-    let loop = c.loop-a in
-    let loop-test = c.loop-a-test in
-    let segment-end = c.segment_end-e in
-    let segment-ok = c.segment_ok in
-    let p = start.args.p.now in
-    let a = loop.a in
-    let h = loop-test.true in (
+    let p = c.args.p.now in
+    let a = c.loop-a.a in
+    let h = c.loop-a-test.true in (
       omega (arith, end_le p a h),
-      loop.invariant.1
-          ∙ rest_after_lem p a h segment-end.result segment-ok.result segment-end.ensures segment-ok.ensures
-          ∙ ap (λ (t : Bool). t && rest_ok p (segment-end.result + 1)) c.if-not-segment_ok.false,
+      c.loop-a.invariant.1
+          ∙ rest_after_lem p a h c.segment_end-e.result c.segment_ok.result c.segment_end-e.ensures c.segment_ok.ensures
+          ∙ ap (λ (t : Bool). t && rest_ok p (c.segment_end-e.result + 1)) c.if-not-segment_ok.false,
     )
 
 pub returns : goal.returns

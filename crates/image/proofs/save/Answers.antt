@@ -22,30 +22,21 @@ overflow_add-length c = let q : bad c.args.monitor ≡ false = sym c.is_bad.ensu
 
 pub returns-then-out-length : goal.returns-then-out-length
 returns-then-out-length c =
-    let is-bad = c.is_bad in
-    let if1 = c.if-is_bad in
-    let q : bad c.args.monitor ≡ false = sym is-bad.ensures ∙ if1.false in
+    let q : bad c.args.monitor ≡ false = sym c.is_bad.ensures ∙ c.if-is_bad.false in
     let f = (fit_of c.args.monitor q).few in
     let z : length c.args.monitor.sets ≡ kept_most = search rules in
     too_short c.args.monitor (omega arith) c.args.out.now q c.if-out-length.true
 
 pub put-requires : goal.put-requires
 put-requires c =
-    let is-bad = c.is_bad in
-    let if1 = c.if-is_bad in
-    let if2 = c.if-out-length in
-    let q : bad c.args.monitor ≡ false = sym is-bad.ensures ∙ if1.false in
+    let q : bad c.args.monitor ≡ false = sym c.is_bad.ensures ∙ c.if-is_bad.false in
     let f = (fit_of c.args.monitor q).few in
     let z : length c.args.monitor.sets ≡ kept_most = search rules in
-    (omega arith, if2.false, z)
+    (omega arith, c.if-out-length.false, z)
 
 pub returns : goal.returns
 returns c =
-    let is-bad = c.is_bad in
-    let if1 = c.if-is_bad in
-    let if2 = c.if-out-length in
-    let put = c.put in
-    let q : bad c.args.monitor ≡ false = sym is-bad.ensures ∙ if1.false in
+    let q : bad c.args.monitor ≡ false = sym c.is_bad.ensures ∙ c.if-is_bad.false in
     let f = (fit_of c.args.monitor q).few in
     let z : length c.args.monitor.sets ≡ kept_most = search rules in
-    saved_is c.args.monitor (omega arith) c.args.out.now _ q if2.false put.ensures
+    saved_is c.args.monitor (omega arith) c.args.out.now _ q c.if-out-length.false c.put.ensures

@@ -7,10 +7,9 @@ use Rattle.path.proofs.rest_of.Goals as goal
 
 pub returns-in_default : goal.returns-in_default
 returns-in_default c =
-    let j = c.judge in
     let told = c.in_default.is in
     let path = c.args.path in
-    (rest_refused j.result j.ensures _ told, rw (sym (root_refused j.result j.ensures _ told)) (part_is 0 0 _ path refl refl (omega arith) refl))
+    (rest_refused c.judge.result c.judge.ensures _ told, rw (sym (root_refused c.judge.result c.judge.ensures _ told)) (part_is 0 0 _ path refl refl (omega arith) refl))
 
 pub returns : goal.returns
 returns c =

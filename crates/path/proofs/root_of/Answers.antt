@@ -8,10 +8,9 @@ use Rattle.path.proofs.root_of.Goals as goal
 
 pub returns-in_default : goal.returns-in_default
 returns-in_default c =
-    let j = c.judge in
     let told = c.in_default.is in
     let sheet = c.args.sheet in
-    (root_refused j.result j.ensures _ told, rw (sym (place_refused j.result j.ensures _ told)) (part_is 0 0 _ sheet refl refl (omega arith) refl))
+    (root_refused c.judge.result c.judge.ensures _ told, rw (sym (place_refused c.judge.result c.judge.ensures _ told)) (part_is 0 0 _ sheet refl refl (omega arith) refl))
 
 -- the span that was found is inside the sheet
 pub returns : goal.returns

@@ -14,13 +14,11 @@ returns-then-kind-ne-ROOT c = rw (ne_eqb c.args.f.kind of_root c.if-kind-ne-ROOT
 pub returns-then-small-count : goal.returns-then-small-count
 unfolding worth_it
 returns-then-small-count c =
-    let g = c.args in
-    let root = eq-eqb g.f.kind of_root c.if-kind-ne-ROOT.false in
-    rw (root, ne_eqb (get_or g.sheet.now g.f.start 0) g.access (λ e. c.if-small-count.true (c.small.ensures ∙ e ∙ sym c.count.ensures)))
+    let root = eq-eqb c.args.f.kind of_root c.if-kind-ne-ROOT.false in
+    rw (root, ne_eqb (get_or c.args.sheet.now c.args.f.start 0) c.args.access (λ e. c.if-small-count.true (c.small.ensures ∙ e ∙ sym c.count.ensures)))
 
 pub returns : goal.returns
 unfolding worth_it
 returns c =
-    let g = c.args in
-    let root = eq-eqb g.f.kind of_root c.if-kind-ne-ROOT.false in
-    rw (root, eq-eqb (get_or g.sheet.now g.f.start 0) g.access (sym c.small.ensures ∙ c.if-small-count.false ∙ c.count.ensures))
+    let root = eq-eqb c.args.f.kind of_root c.if-kind-ne-ROOT.false in
+    rw (root, eq-eqb (get_or c.args.sheet.now c.args.f.start 0) c.args.access (sym c.small.ensures ∙ c.if-small-count.false ∙ c.count.ensures))

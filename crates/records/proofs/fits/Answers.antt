@@ -19,15 +19,8 @@ returns-then-k-p c = sym (kind_long c.args.kind c.args.p.now (omega arith) (omeg
 
 pub returns-then-kind-eq-NODE : goal.returns-then-kind-eq-NODE
 returns-then-kind-eq-NODE c =
-    let start = c in
-    let if3 = c.if-p-k in
-    let if4 = c.if-k-p in
-    let if5 = c.if-kind-eq-NODE in
-    c.node_fits.ensures ∙ sym (kind_node start.args.kind start.args.p.now (omega arith) (omega arith) if3.false if4.false if5.true)
+    c.node_fits.ensures ∙ sym (kind_node c.args.kind c.args.p.now (omega arith) (omega arith) c.if-p-k.false c.if-k-p.false c.if-kind-eq-NODE.true)
 
 pub returns : goal.returns
 returns c =
-    let start = c in
-    let if3 = c.if-p-k in
-    let if4 = c.if-k-p in
-    sym (kind_other start.args.kind start.args.p.now (omega arith) (omega arith) if3.false if4.false c.if-kind-eq-NODE.false)
+    sym (kind_other c.args.kind c.args.p.now (omega arith) (omega arith) c.if-p-k.false c.if-k-p.false c.if-kind-eq-NODE.false)

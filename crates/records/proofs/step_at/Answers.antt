@@ -21,38 +21,22 @@ overflow_cast-len c = omega (arith, c.shared_slice_known-2-1.given (c.args.at + 
 
 pub returns-then-s-start : goal.returns-then-s-start
 returns-then-s-start c =
-    let if2 = c.if-s-at-lt4 in
-    breaks c.args.s.now c.args.at (broken_cut c.args.s.now c.args.at if2.false c.if-s-start.true)
+    breaks c.args.s.now c.args.at (broken_cut c.args.s.now c.args.at c.if-s-at-lt4.false c.if-s-start.true)
 
 pub returns-then-s-at-2 : goal.returns-then-s-at-2
 returns-then-s-at-2 c =
-    let if2 = c.if-s-at-lt4 in
-    let if3 = c.if-s-start in
-    breaks c.args.s.now c.args.at (broken_mark c.args.s.now c.args.at if2.false if3.false c.if-s-at-2.true)
+    breaks c.args.s.now c.args.at (broken_mark c.args.s.now c.args.at c.if-s-at-lt4.false c.if-s-start.false c.if-s-at-2.true)
 
 pub returns-then-s-at-ne-MARK_SECOND : goal.returns-then-s-at-ne-MARK_SECOND
 returns-then-s-at-ne-MARK_SECOND c =
-    let if2 = c.if-s-at-lt4 in
-    let if3 = c.if-s-start in
-    let if4 = c.if-s-at-2 in
-    breaks c.args.s.now c.args.at (broken_second c.args.s.now c.args.at if2.false if3.false if4.false c.if-s-at-ne-MARK_SECOND.true)
+    breaks c.args.s.now c.args.at (broken_second c.args.s.now c.args.at c.if-s-at-lt4.false c.if-s-start.false c.if-s-at-2.false c.if-s-at-ne-MARK_SECOND.true)
 
 pub returns-then-not-fits : goal.returns-then-not-fits
 returns-then-not-fits c =
-    let if2 = c.if-s-at-lt4 in
-    let if3 = c.if-s-start in
-    let if4 = c.if-s-at-2 in
-    let if5 = c.if-s-at-ne-MARK_SECOND in
-    let fits2 = c.fits in
     breaks c.args.s.now c.args.at
-    (framed_by c.args.s.now c.args.at if2.false if3.false if4.false if5.false fits2.result fits2.ensures ∙ c.if-not-fits.true)
+    (framed_by c.args.s.now c.args.at c.if-s-at-lt4.false c.if-s-start.false c.if-s-at-2.false c.if-s-at-ne-MARK_SECOND.false c.fits.result c.fits.ensures ∙ c.if-not-fits.true)
 
 pub returns : goal.returns
 returns c =
-    let if2 = c.if-s-at-lt4 in
-    let if3 = c.if-s-start in
-    let if4 = c.if-s-at-2 in
-    let if5 = c.if-s-at-ne-MARK_SECOND in
-    let fits2 = c.fits in
     sym (ap (λ (f : Frame). answer (Whole f)) (frame_bytes c.args.s.now c.args.at)) ∙ stands c.args.s.now c.args.at
-    (framed_by c.args.s.now c.args.at if2.false if3.false if4.false if5.false fits2.result fits2.ensures ∙ c.if-not-fits.false)
+    (framed_by c.args.s.now c.args.at c.if-s-at-lt4.false c.if-s-start.false c.if-s-at-2.false c.if-s-at-ne-MARK_SECOND.false c.fits.result c.fits.ensures ∙ c.if-not-fits.false)

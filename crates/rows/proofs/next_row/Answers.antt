@@ -22,15 +22,13 @@ overflow_shl-row c = let h = few_nodes c.args.s c.requires in omega arith
 
 pub overflow_add-row : goal.overflow_add-row
 overflow_add-row c =
-    let loop = c.loop-n in
-    let node-bit = c.node_bit in
     let r = rules_in c.args.s in
     let p = c.args.«before» in
     let x = c.args.x in
-    let n = loop.n in
-    let b = node-bit.result in
+    let n = c.loop-n.n in
+    let b = c.node_bit.result in
     let h : n < word_bits = (let k = few_nodes c.args.s c.requires in omega arith) in
-    record { fits = rw (c.one_if-b.ensures, shifted b n h, loop.invariant.1) (row_grows r p x n b h) }
+    record { fits = rw (c.one_if-b.ensures, shifted b n h, c.loop-n.invariant.1) (row_grows r p x n b h) }
 
 pub overflow_add-n : goal.overflow_add-n
 overflow_add-n c = omega arith
@@ -41,19 +39,16 @@ loop-n-smaller c = omega arith
 pub loop-n-preserved : goal.loop-n-preserved
 unfolding row_to
 loop-n-preserved c =
-    let loop = c.loop-n in
-    let node-bit = c.node_bit in
     let r = rules_in c.args.s in
     let p = c.args.«before» in
     let x = c.args.x in
-    let n = loop.n in
-    let b = node-bit.result in
+    let n = c.loop-n.n in
+    let b = c.node_bit.result in
     let h : n < word_bits = (let k = few_nodes c.args.s c.requires in omega arith) in
-    (omega arith, rw (add-one, c.one_if-b.ensures, shifted b n h, node-bit.ensures, loop.invariant.1))
+    (omega arith, rw (add-one, c.one_if-b.ensures, shifted b n h, c.node_bit.ensures, c.loop-n.invariant.1))
 
 pub returns : goal.returns
 unfolding next_row rules_in
 returns c =
-    let loop = c.loop-n in
-    let q : loop.n ≡ c.args.s.nodes = omega arith in
-    loop.invariant.1 ∙ ap (row_to (rules_in c.args.s) c.args.«before» c.args.x) q
+    let q : c.loop-n.n ≡ c.args.s.nodes = omega arith in
+    c.loop-n.invariant.1 ∙ ap (row_to (rules_in c.args.s) c.args.«before» c.args.x) q

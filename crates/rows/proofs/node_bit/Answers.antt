@@ -19,53 +19,43 @@ bounds-s-n-3 c = c.requires.below
 
 pub atom-requires : goal.atom-requires
 atom-requires c =
-    let small = c.small-a in
-    (rw small.ensures (event_left c.args.s c.args.n c.requires c.in-1.is), c.requires.few)
+    (rw c.small-a.ensures (event_left c.args.s c.args.n c.requires c.in-1.is), c.requires.few)
 
 pub atom-requires-in-2 : goal.atom-requires-in-2
 atom-requires-in-2 c =
-    let small = c.small-a in
-    (rw small.ensures (possible_left c.args.s c.args.n c.requires c.in-2.is), c.requires.few)
+    (rw c.small-a.ensures (possible_left c.args.s c.args.n c.requires c.in-2.is), c.requires.few)
 
 pub bit-requires : goal.bit-requires
 bit-requires c =
-    let small = c.small-a in
-    rw small.ensures (not_left c.args.s c.args.n c.requires c.in-3.is)
+    rw c.small-a.ensures (not_left c.args.s c.args.n c.requires c.in-3.is)
 
 pub bit-requires-in-4 : goal.bit-requires-in-4
 bit-requires-in-4 c =
-    let small = c.small-a in
-    rw small.ensures (and_operands c.args.s c.args.n c.requires c.in-4.is).0
+    rw c.small-a.ensures (and_operands c.args.s c.args.n c.requires c.in-4.is).0
 
 pub bit-requires-in-4-2 : goal.bit-requires-in-4-2
 bit-requires-in-4-2 c =
-    let small2 = c.small-b in
-    rw small2.ensures (and_operands c.args.s c.args.n c.requires c.in-4.is).1
+    rw c.small-b.ensures (and_operands c.args.s c.args.n c.requires c.in-4.is).1
 
 pub bit-requires-in-5 : goal.bit-requires-in-5
 bit-requires-in-5 c =
-    let small = c.small-a in
-    rw small.ensures (or_operands c.args.s c.args.n c.requires c.in-5.is).0
+    rw c.small-a.ensures (or_operands c.args.s c.args.n c.requires c.in-5.is).0
 
 pub bit-requires-in-5-2 : goal.bit-requires-in-5-2
 bit-requires-in-5-2 c =
-    let small2 = c.small-b in
-    rw small2.ensures (or_operands c.args.s c.args.n c.requires c.in-5.is).1
+    rw c.small-b.ensures (or_operands c.args.s c.args.n c.requires c.in-5.is).1
 
 pub bit-requires-in-6 : goal.bit-requires-in-6
 bit-requires-in-6 c =
-    let small = c.small-a in
-    rw small.ensures (previous_left c.args.s c.args.n c.requires c.in-6.is)
+    rw c.small-a.ensures (previous_left c.args.s c.args.n c.requires c.in-6.is)
 
 pub bit-requires-in-7 : goal.bit-requires-in-7
 bit-requires-in-7 c =
-    let small2 = c.small-b in
-    rw small2.ensures (since_operands c.args.s c.args.n c.requires c.in-7.is).1
+    rw c.small-b.ensures (since_operands c.args.s c.args.n c.requires c.in-7.is).1
 
 pub bit-requires-in-7-2 : goal.bit-requires-in-7-2
 bit-requires-in-7-2 c =
-    let small = c.small-a in
-    rw small.ensures (since_operands c.args.s c.args.n c.requires c.in-7.is).0
+    rw c.small-a.ensures (since_operands c.args.s c.args.n c.requires c.in-7.is).0
 
 pub bit-requires-in-7-3 : goal.bit-requires-in-7-3
 bit-requires-in-7-3 c = c.requires.below
@@ -97,11 +87,7 @@ returns-in-6 c = rw (c.bit-in-6.ensures, c.small-a.ensures, c.in-6.is)
 pub returns-in-7 : goal.returns-in-7
 unfolding rules_in node_of node_kind node_kinds node_bit
 returns-in-7 c =
-    let bit8 = c.bit-in-7-2 in
-    let bit7 = c.bit-in-7 in
-    let small = c.small-a in
-    let small2 = c.small-b in
-    rw (c.bit-in-7-3.ensures, bit8.ensures, bit7.ensures, small.ensures, small2.ensures, c.in-7.is)
+    rw (c.bit-in-7-3.ensures, c.bit-in-7-2.ensures, c.bit-in-7.ensures, c.small-a.ensures, c.small-b.ensures, c.in-7.is)
 
 pub returns-in_default : goal.returns-in_default
 unfolding rules_in node_bit

@@ -18,33 +18,26 @@ is_closed-requires c = c.requires.0
 
 pub returns-then-not-is_closed : goal.returns-then-not-is_closed
 returns-then-not-is_closed c =
-    let loop = c.loop-k in
-    let loop-test = c.loop-k-test in
-    let is-closed = c.is_closed in
     let z : length c.args.sets ≡ kept_most = search rules in
     let h : c.args.kept ≤ length c.args.sets = (let p = c.requires.1 in omega arith) in
-    let e = run_stops (rules_in c.args.s) c.args.sets c.args.kept h loop.k loop-test.true
-    (sym is-closed.ensures ∙ c.if-not-is_closed.true) in
-    let i = loop.invariant.1 in
+    let e = run_stops (rules_in c.args.s) c.args.sets c.args.kept h c.loop-k.k c.loop-k-test.true
+    (sym c.is_closed.ensures ∙ c.if-not-is_closed.true) in
+    let i = c.loop-k.invariant.1 in
     omega arith
 
 pub loop-k-preserved : goal.loop-k-preserved
 loop-k-preserved c =
-    let loop = c.loop-k in
-    let loop-test = c.loop-k-test in
-    let is-closed = c.is_closed in
     let z : length c.args.sets ≡ kept_most = search rules in
     let h : c.args.kept ≤ length c.args.sets = (let p = c.requires.1 in omega arith) in
-    let e = run_goes_on (rules_in c.args.s) c.args.sets c.args.kept h loop.k loop-test.true
-    (sym is-closed.ensures ∙ c.if-not-is_closed.false) in
-    let i = loop.invariant.1 in
+    let e = run_goes_on (rules_in c.args.s) c.args.sets c.args.kept h c.loop-k.k c.loop-k-test.true
+    (sym c.is_closed.ensures ∙ c.if-not-is_closed.false) in
+    let i = c.loop-k.invariant.1 in
     (omega arith, omega arith)
 
 pub returns : goal.returns
 returns c =
-    let loop = c.loop-k in
     let z : length c.args.sets ≡ kept_most = search rules in
     let h : c.args.kept ≤ length c.args.sets = (let p = c.requires.1 in omega arith) in
-    let e = run_ends (rules_in c.args.s) c.args.sets c.args.kept h loop.k c.loop-k-test.false in
-    let i = loop.invariant.1 in
+    let e = run_ends (rules_in c.args.s) c.args.sets c.args.kept h c.loop-k.k c.loop-k-test.false in
+    let i = c.loop-k.invariant.1 in
     omega arith

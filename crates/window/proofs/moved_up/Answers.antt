@@ -54,20 +54,18 @@ loop-i-smaller c = omega arith
 
 pub loop-i-preserved : goal.loop-i-preserved
 loop-i-preserved c =
-    let loop = c.loop-i in
     let sets_full : length c.args.sets ≡ kept_most = search rules in
     let rows_full : length c.args.rows ≡ kept_most = search rules in
     let p = c.requires in (
       omega arith,
-      rw loop.invariant.1 (moving_more c.args.k loop.i c.args.sets (omega arith) (omega arith)),
-      rw loop.invariant.2 (moving_more c.args.k loop.i c.args.rows (omega arith) (omega arith)),
+      rw c.loop-i.invariant.1 (moving_more c.args.k c.loop-i.i c.args.sets (omega arith) (omega arith)),
+      rw c.loop-i.invariant.2 (moving_more c.args.k c.loop-i.i c.args.rows (omega arith) (omega arith)),
     )
 
 pub returns : goal.returns
 unfolding moved
 returns c =
-    let loop = c.loop-i in
-    let q : loop.i ≡ c.args.kept - c.args.k = omega arith in (
-      loop.invariant.1 ∙ ap (λ (n : ℕ). placing n (drop c.args.k c.args.sets)) q,
-      loop.invariant.2 ∙ ap (λ (n : ℕ). placing n (drop c.args.k c.args.rows)) q,
+    let q : c.loop-i.i ≡ c.args.kept - c.args.k = omega arith in (
+      c.loop-i.invariant.1 ∙ ap (λ (n : ℕ). placing n (drop c.args.k c.args.sets)) q,
+      c.loop-i.invariant.2 ∙ ap (λ (n : ℕ). placing n (drop c.args.k c.args.rows)) q,
     )

@@ -17,14 +17,10 @@ next_row-requires c = c.requires.0
 
 pub loop-j-preserved : goal.loop-j-preserved
 loop-j-preserved c =
-    let loop = c.loop-j in
-    let row_before = c.row_before-before in
-    let loop-test = c.loop-j-test in
-    loop.invariant ∙ rw (c.next_row.ensures, row_before.ensures)
-    (refreshed_step (rules_in c.args.s) c.args.carried c.args.sets.now loop.rows loop.j c.args.kept loop-test.true)
+    c.loop-j.invariant ∙ rw (c.next_row.ensures, c.row_before-before.ensures)
+    (refreshed_step (rules_in c.args.s) c.args.carried c.args.sets.now c.loop-j.rows c.loop-j.j c.args.kept c.loop-j-test.true)
 
 pub returns : goal.returns
 returns c =
-    let loop = c.loop-j in
     sym
-    (loop.invariant ∙ refreshed_end (rules_in c.args.s) c.args.carried c.args.sets.now loop.rows loop.j c.args.kept c.loop-j-test.false)
+    (c.loop-j.invariant ∙ refreshed_end (rules_in c.args.s) c.args.carried c.args.sets.now c.loop-j.rows c.loop-j.j c.args.kept c.loop-j-test.false)

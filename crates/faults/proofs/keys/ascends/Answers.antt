@@ -7,31 +7,19 @@ use Rattle.faults.proofs.keys.ascends.Goals as goal
 
 pub returns-then-x-i : goal.returns-then-x-i
 returns-then-x-i c =
-    let loop = c.loop-i in
-    let loop-test = c.loop-i-test in
-    sym (loop.invariant.1 ∙ from_prefix c.args.x.now c.args.y.now loop.i c.if-x-i.true loop-test.true)
+    sym (c.loop-i.invariant.1 ∙ from_prefix c.args.x.now c.args.y.now c.loop-i.i c.if-x-i.true c.loop-i-test.true)
 
 pub returns-then-x-i-2 : goal.returns-then-x-i-2
 returns-then-x-i-2 c =
-    let loop = c.loop-i in
-    let if1 = c.if-x-i in
-    let loop-test = c.loop-i-test in
-    sym (loop.invariant.1 ∙ from_less c.args.x.now c.args.y.now loop.i if1.false loop-test.true c.if-x-i-2.true)
+    sym (c.loop-i.invariant.1 ∙ from_less c.args.x.now c.args.y.now c.loop-i.i c.if-x-i.false c.loop-i-test.true c.if-x-i-2.true)
 
 pub returns-then-y-i : goal.returns-then-y-i
 returns-then-y-i c =
-    let loop = c.loop-i in
-    let if1 = c.if-x-i in
-    let loop-test = c.loop-i-test in
-    sym (loop.invariant.1 ∙ from_more c.args.x.now c.args.y.now loop.i if1.false loop-test.true c.if-y-i.true)
+    sym (c.loop-i.invariant.1 ∙ from_more c.args.x.now c.args.y.now c.loop-i.i c.if-x-i.false c.loop-i-test.true c.if-y-i.true)
 
 pub loop-i-preserved : goal.loop-i-preserved
 loop-i-preserved c =
-    let loop = c.loop-i in
-    let if1 = c.if-x-i in
-    let loop-test = c.loop-i-test in
-    let if2 = c.if-x-i-2 in
-    (search rules, loop.invariant.1 ∙ from_equal c.args.x.now c.args.y.now loop.i if1.false loop-test.true c.if-y-i.false if2.false)
+    (search rules, c.loop-i.invariant.1 ∙ from_equal c.args.x.now c.args.y.now c.loop-i.i c.if-x-i.false c.loop-i-test.true c.if-y-i.false c.if-x-i-2.false)
 
 pub returns : goal.returns
 returns c = sym (c.loop-i.invariant.1 ∙ from_end c.args.x.now c.args.y.now c.loop-i.i c.loop-i-test.false)

@@ -11,29 +11,20 @@ returns-then-before-eq0 c =
 
 pub returns-then-kind-eq-COUNT : goal.returns-then-kind-eq-COUNT
 returns-then-kind-eq-COUNT c =
-    let if1 = c.if-before-eq0 in
     sym
-    (order_again c.args.«before» c.args.kind c.args.last.now c.args.p.now c.requires if1.false c.if-kind-eq-COUNT.true)
+    (order_again c.args.«before» c.args.kind c.args.last.now c.args.p.now c.requires c.if-before-eq0.false c.if-kind-eq-COUNT.true)
 
 pub returns-then-kind-before : goal.returns-then-kind-before
 returns-then-kind-before c =
-    let if1 = c.if-before-eq0 in
-    let if2 = c.if-kind-eq-COUNT in
     sym
-    (order_down c.args.«before» c.args.kind c.args.last.now c.args.p.now c.requires if1.false if2.false c.if-kind-before.true)
+    (order_down c.args.«before» c.args.kind c.args.last.now c.args.p.now c.requires c.if-before-eq0.false c.if-kind-eq-COUNT.false c.if-kind-before.true)
 
 pub returns-then-before-kind : goal.returns-then-before-kind
 returns-then-before-kind c =
-    let if1 = c.if-before-eq0 in
-    let if2 = c.if-kind-eq-COUNT in
     sym
-    (order_up c.args.«before» c.args.kind c.args.last.now c.args.p.now c.requires if1.false if2.false c.if-before-kind.true)
+    (order_up c.args.«before» c.args.kind c.args.last.now c.args.p.now c.requires c.if-before-eq0.false c.if-kind-eq-COUNT.false c.if-before-kind.true)
 
 pub returns : goal.returns
 returns c =
-    let if1 = c.if-before-eq0 in
-    let if2 = c.if-kind-eq-COUNT in
-    let if3 = c.if-kind-before in
-    let if4 = c.if-before-kind in
     ap not c.follows.ensures ∙ sym
-    (order_same c.args.«before» c.args.kind c.args.last.now c.args.p.now c.requires if1.false if2.false if3.false if4.false)
+    (order_same c.args.«before» c.args.kind c.args.last.now c.args.p.now c.requires c.if-before-eq0.false c.if-kind-eq-COUNT.false c.if-kind-before.false c.if-before-kind.false)

@@ -15,45 +15,22 @@ returns-then-kind-eq-NODE c = sym (keyless c.args.kind c.args.last.now c.args.p.
 
 pub returns-then-a-b : goal.returns-then-a-b
 returns-then-a-b c =
-    let if1 = c.if-kind-eq-COUNT in
-    let if2 = c.if-kind-eq-NODE in
-    let byte = c.byte-a in
-    let byte2 = c.byte-b in
     sym
-    (follows_less c.args.kind c.args.last.now c.args.p.now c.requires if1.false if2.false byte.result byte2.result byte.ensures byte2.ensures c.if-a-b.true)
+    (follows_less c.args.kind c.args.last.now c.args.p.now c.requires c.if-kind-eq-COUNT.false c.if-kind-eq-NODE.false c.byte-a.result c.byte-b.result c.byte-a.ensures c.byte-b.ensures c.if-a-b.true)
 
 pub returns-then-b-a : goal.returns-then-b-a
 returns-then-b-a c =
-    let if1 = c.if-kind-eq-COUNT in
-    let if2 = c.if-kind-eq-NODE in
-    let byte = c.byte-a in
-    let byte2 = c.byte-b in
     sym
-    (follows_more c.args.kind c.args.last.now c.args.p.now c.requires if1.false if2.false byte.result byte2.result byte.ensures byte2.ensures c.if-b-a.true)
+    (follows_more c.args.kind c.args.last.now c.args.p.now c.requires c.if-kind-eq-COUNT.false c.if-kind-eq-NODE.false c.byte-a.result c.byte-b.result c.byte-a.ensures c.byte-b.ensures c.if-b-a.true)
 
 pub returns-then-kind-eq-ROOT : goal.returns-then-kind-eq-ROOT
 returns-then-kind-eq-ROOT c =
-    let tail = c.tail in
-    let tail2 = c.tail-then-kind-eq-ROOT in
-    let if1 = c.if-kind-eq-COUNT in
-    let if2 = c.if-kind-eq-NODE in
     let byte = c.byte-a in
-    let byte2 = c.byte-b in
-    let if3 = c.if-a-b in
-    let if4 = c.if-b-a in
-    let if5 = c.if-kind-eq-ROOT in
-    c.ascends.ensures ∙ ap₂ ascends tail.ensures tail2.ensures ∙ sym
-    (follows_root c.args.kind c.args.last.now c.args.p.now c.requires if1.false if2.false byte.result byte2.result byte.ensures byte2.ensures if3.false if4.false if5.true)
+    c.ascends.ensures ∙ ap₂ ascends c.tail.ensures c.tail-then-kind-eq-ROOT.ensures ∙ sym
+    (follows_root c.args.kind c.args.last.now c.args.p.now c.requires c.if-kind-eq-COUNT.false c.if-kind-eq-NODE.false byte.result c.byte-b.result byte.ensures c.byte-b.ensures c.if-a-b.false c.if-b-a.false c.if-kind-eq-ROOT.true)
 
 pub returns : goal.returns
 returns c =
-    let byte3 = c.byte-c in
-    let byte4 = c.byte-d in
-    let if1 = c.if-kind-eq-COUNT in
-    let if2 = c.if-kind-eq-NODE in
     let byte = c.byte-a in
-    let byte2 = c.byte-b in
-    let if3 = c.if-a-b in
-    let if4 = c.if-b-a in
-    ap₂ ltb byte3.ensures byte4.ensures ∙ sym
-    (follows_pair c.args.kind c.args.last.now c.args.p.now c.requires if1.false if2.false byte.result byte2.result byte.ensures byte2.ensures if3.false if4.false c.if-kind-eq-ROOT.false)
+    ap₂ ltb c.byte-c.ensures c.byte-d.ensures ∙ sym
+    (follows_pair c.args.kind c.args.last.now c.args.p.now c.requires c.if-kind-eq-COUNT.false c.if-kind-eq-NODE.false byte.result c.byte-b.result byte.ensures c.byte-b.ensures c.if-a-b.false c.if-b-a.false c.if-kind-eq-ROOT.false)

@@ -17,9 +17,8 @@ overflow_sub-k c = omega arith
 
 pub overflow_mul-value : goal.overflow_mul-value
 overflow_mul-value c =
-    let loop = c.loop-k in
-    let w = number_bound c.args.n loop.k loop.value 0 c.loop-k-test.true loop.invariant.0 loop.invariant.2 (omega arith) in
-    let e = row_worth (c.args.n - (loop.k - 1)) (loop.value * 256 + 0) (omega arith) w in
+    let w = number_bound c.args.n c.loop-k.k c.loop-k.value 0 c.loop-k-test.true c.loop-k.invariant.0 c.loop-k.invariant.2 (omega arith) in
+    let e = row_worth (c.args.n - (c.loop-k.k - 1)) (c.loop-k.value * 256 + 0) (omega arith) w in
     omega arith
 
 pub overflow_add-at : goal.overflow_add-at
@@ -30,10 +29,8 @@ bounds-s-at c = omega arith
 
 pub overflow_add-value : goal.overflow_add-value
 overflow_add-value c =
-    let loop = c.loop-k in
-    let loop-test = c.loop-k-test in
-    let e = row_worth (c.args.n - (loop.k - 1)) (loop.value * 256 + c.byte.result) (omega arith)
-    (number_bound c.args.n loop.k loop.value c.byte.result loop-test.true loop.invariant.0 loop.invariant.2 c.byte.ensures.1) in
+    let e = row_worth (c.args.n - (c.loop-k.k - 1)) (c.loop-k.value * 256 + c.byte.result) (omega arith)
+    (number_bound c.args.n c.loop-k.k c.loop-k.value c.byte.result c.loop-k-test.true c.loop-k.invariant.0 c.loop-k.invariant.2 c.byte.ensures.1) in
     omega arith
 
 pub loop-k-smaller : goal.loop-k-smaller
@@ -41,18 +38,16 @@ loop-k-smaller c = omega arith
 
 pub loop-k-preserved : goal.loop-k-preserved
 loop-k-preserved c =
-    let loop = c.loop-k in
     let loop-test = c.loop-k-test in (
       omega arith,
       rw c.byte.ensures.0
-          (number_more c.args.s.now c.args.at c.args.n loop.k loop.value loop-test.true loop.invariant.0 c.requires.1 loop.invariant.1),
-      number_bound c.args.n loop.k loop.value c.byte.result loop-test.true loop.invariant.0 loop.invariant.2 c.byte.ensures.1,
+          (number_more c.args.s.now c.args.at c.args.n c.loop-k.k c.loop-k.value loop-test.true c.loop-k.invariant.0 c.requires.1 c.loop-k.invariant.1),
+      number_bound c.args.n c.loop-k.k c.loop-k.value c.byte.result loop-test.true c.loop-k.invariant.0 c.loop-k.invariant.2 c.byte.ensures.1,
     )
 
 pub returns : goal.returns
 returns c =
-    let loop = c.loop-k in
-    let z : loop.k ≡ 0 = omega arith in
+    let z : c.loop-k.k ≡ 0 = omega arith in
     let q : c.args.n - 0 ≡ c.args.n = omega arith in
     let a : c.args.at + 0 ≡ c.args.at = omega arith in
-    (loop.invariant.1 ∙ rw (z, q, a), rw (sym q ∙ ap (λ (x : ℕ). c.args.n - x) (sym z)) loop.invariant.2)
+    (c.loop-k.invariant.1 ∙ rw (z, q, a), rw (sym q ∙ ap (λ (x : ℕ). c.args.n - x) (sym z)) c.loop-k.invariant.2)

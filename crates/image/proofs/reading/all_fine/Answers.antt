@@ -26,13 +26,10 @@ fine-requires c = c.requires.0
 
 pub returns-then-not-fine : goal.returns-then-not-fine
 returns-then-not-fine c =
-    let loop = c.loop-j in
-    let fine' = c.fine in
-    let loop-test = c.loop-j-test in
     let z : length c.args.sets ≡ kept_most = search rules in
     let h : c.args.kept ≤ length c.args.sets = rw z c.requires.1 in
-    let q : (fine (rules_in c.args.s)) (get_or c.args.sets loop.j 0) ≡ false = sym fine'.ensures ∙ c.if-not-fine.true in
-    sym (loop.invariant.1 ∙ all_more (fine (rules_in c.args.s)) c.args.sets c.args.kept h loop.j loop-test.true ∙ rw q)
+    let q : (fine (rules_in c.args.s)) (get_or c.args.sets c.loop-j.j 0) ≡ false = sym c.fine.ensures ∙ c.if-not-fine.true in
+    sym (c.loop-j.invariant.1 ∙ all_more (fine (rules_in c.args.s)) c.args.sets c.args.kept h c.loop-j.j c.loop-j-test.true ∙ rw q)
 
 pub overflow_add-j : goal.overflow_add-j
 overflow_add-j c = let h = c.requires.1 in omega arith
@@ -42,17 +39,13 @@ loop-j-smaller c = omega arith
 
 pub loop-j-preserved : goal.loop-j-preserved
 loop-j-preserved c =
-    let loop = c.loop-j in
-    let fine' = c.fine in
-    let loop-test = c.loop-j-test in
     let z : length c.args.sets ≡ kept_most = search rules in
     let h : c.args.kept ≤ length c.args.sets = rw z c.requires.1 in
-    let q : (fine (rules_in c.args.s)) (get_or c.args.sets loop.j 0) ≡ true = sym fine'.ensures ∙ c.if-not-fine.false in
-    (omega arith, loop.invariant.1 ∙ all_more (fine (rules_in c.args.s)) c.args.sets c.args.kept h loop.j loop-test.true ∙ rw q)
+    let q : (fine (rules_in c.args.s)) (get_or c.args.sets c.loop-j.j 0) ≡ true = sym c.fine.ensures ∙ c.if-not-fine.false in
+    (omega arith, c.loop-j.invariant.1 ∙ all_more (fine (rules_in c.args.s)) c.args.sets c.args.kept h c.loop-j.j c.loop-j-test.true ∙ rw q)
 
 pub returns : goal.returns
 returns c =
-    let loop = c.loop-j in
     let z : length c.args.sets ≡ kept_most = search rules in
     let h : c.args.kept ≤ length c.args.sets = rw z c.requires.1 in
-    sym (loop.invariant.1 ∙ all_end (fine (rules_in c.args.s)) c.args.sets c.args.kept h loop.j c.loop-j-test.false)
+    sym (c.loop-j.invariant.1 ∙ all_end (fine (rules_in c.args.s)) c.args.sets c.args.kept h c.loop-j.j c.loop-j-test.false)

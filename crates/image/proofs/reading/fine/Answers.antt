@@ -13,6 +13,5 @@ allowed-requires c = few_events c.args.s c.requires
 
 pub returns : goal.returns
 returns c =
-    let beyond = c.beyond in
-    rw (beyond.ensures, not_beyond c.args.s.events c.args.x, c.allowed.ensures, allowed_over c.args.s c.args.x)
+    rw (c.beyond.ensures, not_beyond c.args.s.events c.args.x, c.allowed.ensures, allowed_over c.args.s c.args.x)
     (fine_is c.args.s c.args.x)

@@ -20,8 +20,6 @@ is_closed-requires c = c.requires.0
 
 pub returns : goal.returns
 returns c =
-    let all-fine = c.all_fine-lawful in
-    let beyond = c.beyond-outside in
     let z : length c.args.sets ≡ kept_most = search rules in
-    rw (all-fine.ensures, beyond.ensures, c.is_closed.ensures, sym (oldest_is (rules_in c.args.s) c.args.kept c.args.sets z))
+    rw (c.all_fine-lawful.ensures, c.beyond-outside.ensures, c.is_closed.ensures, sym (oldest_is (rules_in c.args.s) c.args.kept c.args.sets z))
     (unlawful_is c.args.s c.args.carried (take c.args.kept c.args.sets))

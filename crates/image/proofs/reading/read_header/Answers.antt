@@ -23,26 +23,12 @@ sessions_headed-whole-requires c = (omega arith, refl)
 pub returns-then-marked-whole : goal.returns-then-marked-whole
 unfolding answer
 returns-then-marked-whole c =
-    let headed = c.headed-marked in
-    let sessions-headed = c.sessions_headed-whole in
-    let number_at = c.number_at-total in
-    let number-at2 = c.number_at-gone in
-    let number-at3 = c.number_at-carried in
-    let if1 = c.if-len-lt-HEADER in
-    let if2 = c.if-len-kept in
-    unread_wrong c.args.s.now headed.result sessions-headed.result number_at.result number-at2.result number-at3.result
-    headed.ensures sessions-headed.ensures number_at.ensures.0 number-at2.ensures.0 number-at3.ensures.0 if1.false if2.false
+    unread_wrong c.args.s.now c.headed-marked.result c.sessions_headed-whole.result c.number_at-total.result c.number_at-gone.result c.number_at-carried.result
+    c.headed-marked.ensures c.sessions_headed-whole.ensures c.number_at-total.ensures.0 c.number_at-gone.ensures.0 c.number_at-carried.ensures.0 c.if-len-lt-HEADER.false c.if-len-kept.false
     c.if-marked-whole.true
 
 pub returns : goal.returns
 unfolding answer
 returns c =
-    let headed = c.headed-marked in
-    let sessions-headed = c.sessions_headed-whole in
-    let number_at = c.number_at-total in
-    let number-at2 = c.number_at-gone in
-    let number-at3 = c.number_at-carried in
-    let if1 = c.if-len-lt-HEADER in
-    let if2 = c.if-len-kept in
-    read_says c.args.s.now headed.result sessions-headed.result number_at.result number-at2.result number-at3.result headed.ensures
-    sessions-headed.ensures number_at.ensures.0 number-at2.ensures.0 number-at3.ensures.0 if1.false if2.false c.if-marked-whole.false
+    read_says c.args.s.now c.headed-marked.result c.sessions_headed-whole.result c.number_at-total.result c.number_at-gone.result c.number_at-carried.result c.headed-marked.ensures
+    c.sessions_headed-whole.ensures c.number_at-total.ensures.0 c.number_at-gone.ensures.0 c.number_at-carried.ensures.0 c.if-len-lt-HEADER.false c.if-len-kept.false c.if-marked-whole.false

@@ -24,11 +24,8 @@ headed-requires c = let h = c.requires.0 in omega arith
 
 pub returns-then-not-headed : goal.returns-then-not-headed
 returns-then-not-headed c =
-    let loop = c.loop-j in
-    let headed' = c.headed in
-    let loop-test = c.loop-j-test in
-    let q : headed session_kind (drop (image_length loop.j) c.args.s.now) ≡ false = sym headed'.ensures ∙ c.if-not-headed.true in
-    sym (loop.invariant.1 ∙ headed_more c.args.s.now c.args.kept loop.j loop-test.true ∙ rw q)
+    let q : headed session_kind (drop (image_length c.loop-j.j) c.args.s.now) ≡ false = sym c.headed.ensures ∙ c.if-not-headed.true in
+    sym (c.loop-j.invariant.1 ∙ headed_more c.args.s.now c.args.kept c.loop-j.j c.loop-j-test.true ∙ rw q)
 
 pub overflow_add-j-in-loop-j : goal.overflow_add-j-in-loop-j
 overflow_add-j-in-loop-j c = let h = c.requires.0 in omega arith
@@ -38,12 +35,9 @@ loop-j-smaller c = omega arith
 
 pub loop-j-preserved : goal.loop-j-preserved
 loop-j-preserved c =
-    let loop = c.loop-j in
-    let headed' = c.headed in
-    let loop-test = c.loop-j-test in
-    let q : headed session_kind (drop (image_length loop.j) c.args.s.now) ≡ true = sym headed'.ensures ∙ c.if-not-headed.false
+    let q : headed session_kind (drop (image_length c.loop-j.j) c.args.s.now) ≡ true = sym c.headed.ensures ∙ c.if-not-headed.false
     in
-    (omega arith, loop.invariant.1 ∙ headed_more c.args.s.now c.args.kept loop.j loop-test.true ∙ rw q)
+    (omega arith, c.loop-j.invariant.1 ∙ headed_more c.args.s.now c.args.kept c.loop-j.j c.loop-j-test.true ∙ rw q)
 
 pub returns : goal.returns
 returns c = sym (c.loop-j.invariant.1 ∙ headed_end c.args.s.now c.args.kept c.loop-j.j c.loop-j-test.false)

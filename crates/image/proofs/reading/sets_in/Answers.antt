@@ -70,19 +70,17 @@ loop-j-smaller c = omega arith
 
 pub loop-j-preserved : goal.loop-j-preserved
 loop-j-preserved c =
-    let loop = c.loop-j in
     let h = c.requires.0 in
     let k = c.requires.1 in
     let g = c.requires.2 in
     let n = sets_count c.args.s.now in
-    (omega arith, rw (c.number_at.ensures.0, loop.invariant.1, sym (set_in c.args.s.now loop.j (omega arith))) (placing_more loop.j (said c.args.s.now).sets (omega arith) (omega arith)))
+    (omega arith, rw (c.number_at.ensures.0, c.loop-j.invariant.1, sym (set_in c.args.s.now c.loop-j.j (omega arith))) (placing_more c.loop-j.j (said c.args.s.now).sets (omega arith) (omega arith)))
 
 pub returns : goal.returns
 returns c =
-    let loop = c.loop-j in
     let h = c.requires.0 in
     let k = c.requires.1 in
     let g = c.requires.2 in
     let n = sets_count c.args.s.now in
-    let q : loop.j ≡ length (said c.args.s.now).sets = omega arith in
-    loop.invariant.1 ∙ placed_all (said c.args.s.now).sets loop.j q
+    let q : c.loop-j.j ≡ length (said c.args.s.now).sets = omega arith in
+    c.loop-j.invariant.1 ∙ placed_all (said c.args.s.now).sets c.loop-j.j q

@@ -10,8 +10,7 @@ header_byte-requires c = c.if-i-lt-HEADER.true
 
 pub returns-then-i-lt-HEADER : goal.returns-then-i-lt-HEADER
 returns-then-i-lt-HEADER c =
-    let if1 = c.if-i-lt-HEADER in
-    c.header_byte.ensures ∙ whole_front c.args.total c.args.gone c.args.carried c.args.sets.now c.args.i if1.true
+    c.header_byte.ensures ∙ whole_front c.args.total c.args.gone c.args.carried c.args.sets.now c.args.i c.if-i-lt-HEADER.true
 
 pub offset_bounds-sets-j : goal.offset_bounds-sets-j
 offset_bounds-sets-j c = let h = c.requires.0 in omega arith
@@ -24,7 +23,6 @@ session_byte-requires c = omega arith
 
 pub returns : goal.returns
 returns c =
-    let if1 = c.if-i-lt-HEADER in
     let z = c.requires.1 in
-    c.session_byte.ensures ∙ whole_later c.args.total c.args.gone c.args.carried c.args.sets.now c.args.i if1.false
+    c.session_byte.ensures ∙ whole_later c.args.total c.args.gone c.args.carried c.args.sets.now c.args.i c.if-i-lt-HEADER.false
     (let h = c.requires.0 in omega arith)

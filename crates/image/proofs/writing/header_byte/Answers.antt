@@ -16,27 +16,20 @@ byte_of-requires c = omega arith
 
 pub returns-then-i-lt-GONE_AT : goal.returns-then-i-lt-GONE_AT
 returns-then-i-lt-GONE_AT c =
-    let wide = c.wide in
-    let if1 = c.if-i-lt-TOTAL_AT in
-    let if2 = c.if-i-lt-GONE_AT in
-    rw (c.byte_of.ensures, wide.ensures)
-    (header_total c.args.total c.args.gone c.args.carried c.args.i if1.false if2.true)
+    rw (c.byte_of.ensures, c.wide.ensures)
+    (header_total c.args.total c.args.gone c.args.carried c.args.i c.if-i-lt-TOTAL_AT.false c.if-i-lt-GONE_AT.true)
 
 pub byte_of-requires-then-i-lt-CARRIED_AT : goal.byte_of-requires-then-i-lt-CARRIED_AT
 byte_of-requires-then-i-lt-CARRIED_AT c = omega arith
 
 pub returns-then-i-lt-CARRIED_AT : goal.returns-then-i-lt-CARRIED_AT
 returns-then-i-lt-CARRIED_AT c =
-    let wide2 = c.wide-then-i-lt-CARRIED_AT in
-    let if2 = c.if-i-lt-GONE_AT in
-    let if3 = c.if-i-lt-CARRIED_AT in
-    rw (c.byte_of-then-i-lt-CARRIED_AT.ensures, wide2.ensures)
-    (header_gone c.args.total c.args.gone c.args.carried c.args.i if2.false if3.true)
+    rw (c.byte_of-then-i-lt-CARRIED_AT.ensures, c.wide-then-i-lt-CARRIED_AT.ensures)
+    (header_gone c.args.total c.args.gone c.args.carried c.args.i c.if-i-lt-GONE_AT.false c.if-i-lt-CARRIED_AT.true)
 
 pub byte_of-requires-2 : goal.byte_of-requires-2
 byte_of-requires-2 c = let h = c.requires in omega arith
 
 pub returns : goal.returns
 returns c =
-    let if3 = c.if-i-lt-CARRIED_AT in
-    c.byte_of-2.ensures ∙ header_row c.args.total c.args.gone c.args.carried c.args.i if3.false c.requires
+    c.byte_of-2.ensures ∙ header_row c.args.total c.args.gone c.args.carried c.args.i c.if-i-lt-CARRIED_AT.false c.requires

@@ -19,13 +19,12 @@ byte_at-requires c = let h = c.requires.0 in (omega arith, c.requires.2)
 
 pub bounds-out-i : goal.bounds-out-i
 bounds-out-i c =
-    let loop = c.loop-i in
     let w = whole_length c.args.total c.args.gone c.args.carried c.args.sets.now in
     let h = c.requires.0 in
     let g = c.requires.1 in
     let z = c.requires.2 in
-    let e : length loop.out ≡ length c.args.out.now = ap length loop.invariant.1 ∙ put_length
-    (whole c.args.total c.args.gone c.args.carried c.args.sets.now) c.args.out.now loop.i (omega arith)
+    let e : length c.loop-i.out ≡ length c.args.out.now = ap length c.loop-i.invariant.1 ∙ put_length
+    (whole c.args.total c.args.gone c.args.carried c.args.sets.now) c.args.out.now c.loop-i.i (omega arith)
     (omega arith) in
     omega arith
 
@@ -34,26 +33,23 @@ loop-i-smaller c = omega arith
 
 pub loop-i-preserved : goal.loop-i-preserved
 loop-i-preserved c =
-    let loop = c.loop-i in
     let w = whole_length c.args.total c.args.gone c.args.carried c.args.sets.now in
     let h = c.requires.0 in
     let g = c.requires.1 in
     let z = c.requires.2 in
-    (omega arith, rw (c.byte_at.ensures, loop.invariant.1) (put_more (whole c.args.total c.args.gone c.args.carried c.args.sets.now) c.args.out.now loop.i (omega arith) (omega arith)))
+    (omega arith, rw (c.byte_at.ensures, c.loop-i.invariant.1) (put_more (whole c.args.total c.args.gone c.args.carried c.args.sets.now) c.args.out.now c.loop-i.i (omega arith) (omega arith)))
 
 pub shape_of-out : goal.shape_of-out
 shape_of-out c =
-    let loop = c.loop-i in
     let w = whole_length c.args.total c.args.gone c.args.carried c.args.sets.now in
     let h = c.requires.0 in
     let g = c.requires.1 in
     let z = c.requires.2 in
-    ap length loop.invariant.1 ∙ put_length (whole c.args.total c.args.gone c.args.carried c.args.sets.now)
-    c.args.out.now loop.i (omega arith) (omega arith)
+    ap length c.loop-i.invariant.1 ∙ put_length (whole c.args.total c.args.gone c.args.carried c.args.sets.now)
+    c.args.out.now c.loop-i.i (omega arith) (omega arith)
 
 pub returns : goal.returns
 returns c =
-    let loop = c.loop-i in
-    let q : loop.i ≡ c.args.len = omega arith in
-    loop.invariant.1 ∙ ap
+    let q : c.loop-i.i ≡ c.args.len = omega arith in
+    c.loop-i.invariant.1 ∙ ap
     (λ (n : ℕ). take n (whole c.args.total c.args.gone c.args.carried c.args.sets.now) ++ drop n c.args.out.now) q

@@ -16,6 +16,4 @@ byte_of-requires c = let h = c.requires in omega arith
 
 pub returns : goal.returns
 returns c =
-    let wide = c.wide in
-    let if1 = c.if-i-lt-SET_AT in
-    rw (c.byte_of.ensures, wide.ensures) (session_set c.args.set c.args.i if1.false c.requires)
+    rw (c.byte_of.ensures, c.wide.ensures) (session_set c.args.set c.args.i c.if-i-lt-SET_AT.false c.requires)

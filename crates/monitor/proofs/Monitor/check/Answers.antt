@@ -17,23 +17,16 @@ row_now-row-requires c = fit_of c.args.self (sym c.is_bad.ensures ∙ c.if-is_ba
 
 pub overflow_sub-self : goal.overflow_sub-self
 overflow_sub-self c =
-    let is-bad = c.is_bad in
-    let if1 = c.if-is_bad in
-    some_nodes c.args.self.sheet (fit_of c.args.self (sym is-bad.ensures ∙ if1.false)).sounds
+    some_nodes c.args.self.sheet (fit_of c.args.self (sym c.is_bad.ensures ∙ c.if-is_bad.false)).sounds
 
 pub bit-allow-requires : goal.bit-allow-requires
 bit-allow-requires c =
-    let is-bad = c.is_bad in
-    let if1 = c.if-is_bad in
-    let a = some_nodes c.args.self.sheet (fit_of c.args.self (sym is-bad.ensures ∙ if1.false)).sounds in
-    let b = few_nodes c.args.self.sheet (fit_of c.args.self (sym is-bad.ensures ∙ if1.false)).sounds in
+    let a = some_nodes c.args.self.sheet (fit_of c.args.self (sym c.is_bad.ensures ∙ c.if-is_bad.false)).sounds in
+    let b = few_nodes c.args.self.sheet (fit_of c.args.self (sym c.is_bad.ensures ∙ c.if-is_bad.false)).sounds in
     omega arith
 
 pub returns : goal.returns
 unfolding check_of
 returns c =
-    let is-bad = c.is_bad in
-    let if1 = c.if-is_bad in
-    let row_now = c.row_now-row in
-    let q : bad c.args.self ≡ false = sym is-bad.ensures ∙ if1.false in
-    rw (q, c.bit-allow.ensures, row_now.ensures)
+    let q : bad c.args.self ≡ false = sym c.is_bad.ensures ∙ c.if-is_bad.false in
+    rw (q, c.bit-allow.ensures, c.row_now-row.ensures)

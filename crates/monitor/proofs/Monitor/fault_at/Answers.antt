@@ -44,66 +44,43 @@ within-lacks-requires c = few_events c.args.self.sheet c.requires.0.sounds
 pub returns-then-shut : goal.returns-then-shut
 unfolding fault_at
 returns-then-shut c =
-    let is-closed = c.is_closed-shut in
-    let q : closed (rules_in c.args.self.sheet) c.args.x ≡ true = sym is-closed.ensures ∙ c.if-shut.true in
+    let q : closed (rules_in c.args.self.sheet) c.args.x ≡ true = sym c.is_closed-shut.ensures ∙ c.if-shut.true in
     rw q
 
 pub returns-then-there : goal.returns-then-there
 unfolding fault_at
 returns-then-there c =
-    let is-closed = c.is_closed-shut in
-    let if1 = c.if-shut in
-    let has = c.has-there in
-    let q : closed (rules_in c.args.self.sheet) c.args.x ≡ false = sym is-closed.ensures ∙ if1.false in
-    let p : mem c.args.e c.args.x ≡ true = sym has.ensures ∙ c.if-there.true in
+    let q : closed (rules_in c.args.self.sheet) c.args.x ≡ false = sym c.is_closed-shut.ensures ∙ c.if-shut.false in
+    let p : mem c.args.e c.args.x ≡ true = sym c.has-there.ensures ∙ c.if-there.true in
     rw (q, p)
 
 pub returns-then-clash : goal.returns-then-clash
 unfolding fault_at
 returns-then-clash c =
-    let is-closed = c.is_closed-shut in
-    let if1 = c.if-shut in
-    let has = c.has-there in
-    let if2 = c.if-there in
-    let apart = c.apart-clash in
-    let q : closed (rules_in c.args.self.sheet) c.args.x ≡ false = sym is-closed.ensures ∙ if1.false in
-    let p : mem c.args.e c.args.x ≡ false = sym has.ensures ∙ if2.false in
+    let q : closed (rules_in c.args.self.sheet) c.args.x ≡ false = sym c.is_closed-shut.ensures ∙ c.if-shut.false in
+    let p : mem c.args.e c.args.x ≡ false = sym c.has-there.ensures ∙ c.if-there.false in
     let d : not (possible (rules_in c.args.self.sheet) c.args.e c.args.x) ≡ true = ap not
-    (possible_in c.args.self.sheet c.args.e c.args.x ∙ sym apart.ensures ∙ c.if-clash.true) in
+    (possible_in c.args.self.sheet c.args.e c.args.x ∙ sym c.apart-clash.ensures ∙ c.if-clash.true) in
     rw (q, p, d)
 
 pub returns-then-lacks : goal.returns-then-lacks
 unfolding fault_at
 returns-then-lacks c =
-    let is-closed = c.is_closed-shut in
-    let if1 = c.if-shut in
-    let has = c.has-there in
-    let if2 = c.if-there in
-    let apart = c.apart-clash in
-    let if3 = c.if-clash in
-    let within = c.within-lacks in
-    let q : closed (rules_in c.args.self.sheet) c.args.x ≡ false = sym is-closed.ensures ∙ if1.false in
-    let p : mem c.args.e c.args.x ≡ false = sym has.ensures ∙ if2.false in
+    let q : closed (rules_in c.args.self.sheet) c.args.x ≡ false = sym c.is_closed-shut.ensures ∙ c.if-shut.false in
+    let p : mem c.args.e c.args.x ≡ false = sym c.has-there.ensures ∙ c.if-there.false in
     let d : not (possible (rules_in c.args.self.sheet) c.args.e c.args.x) ≡ false = ap not
-    (possible_in c.args.self.sheet c.args.e c.args.x ∙ sym apart.ensures ∙ if3.false) in
+    (possible_in c.args.self.sheet c.args.e c.args.x ∙ sym c.apart-clash.ensures ∙ c.if-clash.false) in
     let g : not (supported (rules_in c.args.self.sheet) c.args.e c.args.x) ≡ true = ap not
-    (supported_in c.args.self.sheet c.args.e c.args.x ∙ sym within.ensures ∙ c.if-lacks.true) in
+    (supported_in c.args.self.sheet c.args.e c.args.x ∙ sym c.within-lacks.ensures ∙ c.if-lacks.true) in
     rw (q, p, d, g)
 
 pub returns : goal.returns
 unfolding fault_at
 returns c =
-    let is-closed = c.is_closed-shut in
-    let if1 = c.if-shut in
-    let has = c.has-there in
-    let if2 = c.if-there in
-    let apart = c.apart-clash in
-    let if3 = c.if-clash in
-    let within = c.within-lacks in
-    let q : closed (rules_in c.args.self.sheet) c.args.x ≡ false = sym is-closed.ensures ∙ if1.false in
-    let p : mem c.args.e c.args.x ≡ false = sym has.ensures ∙ if2.false in
+    let q : closed (rules_in c.args.self.sheet) c.args.x ≡ false = sym c.is_closed-shut.ensures ∙ c.if-shut.false in
+    let p : mem c.args.e c.args.x ≡ false = sym c.has-there.ensures ∙ c.if-there.false in
     let d : not (possible (rules_in c.args.self.sheet) c.args.e c.args.x) ≡ false = ap not
-    (possible_in c.args.self.sheet c.args.e c.args.x ∙ sym apart.ensures ∙ if3.false) in
+    (possible_in c.args.self.sheet c.args.e c.args.x ∙ sym c.apart-clash.ensures ∙ c.if-clash.false) in
     let g : not (supported (rules_in c.args.self.sheet) c.args.e c.args.x) ≡ false = ap not
-    (supported_in c.args.self.sheet c.args.e c.args.x ∙ sym within.ensures ∙ c.if-lacks.false) in
+    (supported_in c.args.self.sheet c.args.e c.args.x ∙ sym c.within-lacks.ensures ∙ c.if-lacks.false) in
     rw (q, p, d, g)

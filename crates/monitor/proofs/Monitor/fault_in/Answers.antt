@@ -17,26 +17,19 @@ returns-then-self-session c = rw (ne_eqb c.args.session 0 c.if-session-eq0.false
 pub returns-then-self-e : goal.returns-then-self-e
 unfolding fault_in
 returns-then-self-e c =
-    let if1 = c.if-session-eq0 in
-    let if2 = c.if-self-session in
-    let count = c.count-e in
     rw (
-      ne_eqb c.args.session 0 if1.false,
-      le-ltb c.args.self.total c.args.session if2.false,
-      le-leb c.args.self.sheet.events c.args.event (let q = count.ensures in let k = c.if-self-e.true in omega arith),
+      ne_eqb c.args.session 0 c.if-session-eq0.false,
+      le-ltb c.args.self.total c.args.session c.if-self-session.false,
+      le-leb c.args.self.sheet.events c.args.event (let q = c.count-e.ensures in let k = c.if-self-e.true in omega arith),
     )
 
 pub returns-then-session-gone : goal.returns-then-session-gone
 unfolding fault_in
 returns-then-session-gone c =
-    let if1 = c.if-session-eq0 in
-    let if2 = c.if-self-session in
-    let count = c.count-e in
-    let if3 = c.if-self-e in
     rw (
-      ne_eqb c.args.session 0 if1.false,
-      le-ltb c.args.self.total c.args.session if2.false,
-      lt-leb c.args.self.sheet.events c.args.event (let q = count.ensures in let k = if3.false in omega arith),
+      ne_eqb c.args.session 0 c.if-session-eq0.false,
+      le-ltb c.args.self.total c.args.session c.if-self-session.false,
+      lt-leb c.args.self.sheet.events c.args.event (let q = c.count-e.ensures in let k = c.if-self-e.false in omega arith),
       le-leb c.args.session c.args.self.gone c.if-session-gone.true,
     )
 
@@ -51,13 +44,11 @@ offset_bounds-self-i c = let q = c.count-i.ensures in let f = c.requires in let 
 
 pub bounds-self-i : goal.bounds-self-i
 bounds-self-i c =
-    let if2 = c.if-self-session in
-    let if4 = c.if-session-gone in
     let q = c.count-i.ensures in
     let f = c.requires.few in
     let e = c.requires.counted in
-    let k = if2.false in
-    let j = if4.false in
+    let k = c.if-self-session.false in
+    let j = c.if-session-gone.false in
     omega arith
 
 pub fault_at-requires : goal.fault_at-requires
@@ -66,17 +57,11 @@ fault_at-requires c = (c.requires, c.if-self-e.false)
 pub returns : goal.returns
 unfolding fault_in
 returns c =
-    let if1 = c.if-session-eq0 in
-    let if2 = c.if-self-session in
-    let count = c.count-e in
-    let if3 = c.if-self-e in
-    let if4 = c.if-session-gone in
-    let count2 = c.count-i in
     c.fault_at.ensures ∙ rw (
-      ne_eqb c.args.session 0 if1.false,
-      le-ltb c.args.self.total c.args.session if2.false,
-      lt-leb c.args.self.sheet.events c.args.event (let q = count.ensures in let k = if3.false in omega arith),
-      lt-leb c.args.session c.args.self.gone if4.false,
-      count2.ensures,
-      count.ensures,
+      ne_eqb c.args.session 0 c.if-session-eq0.false,
+      le-ltb c.args.self.total c.args.session c.if-self-session.false,
+      lt-leb c.args.self.sheet.events c.args.event (let q = c.count-e.ensures in let k = c.if-self-e.false in omega arith),
+      lt-leb c.args.session c.args.self.gone c.if-session-gone.false,
+      c.count-i.ensures,
+      c.count-e.ensures,
     )

@@ -18,36 +18,25 @@ overflow_add-count c = let e = c.count.ensures in let h = c.if-kept-gt-KEPT.fals
 pub returns-then-count-kept : goal.returns-then-count-kept
 unfolding bad
 returns-then-count-kept c =
-    let if1 = c.if-kept-gt-KEPT in
-    let count2 = c.count-2 in
-    let count = c.count in
     rw (
-      le-ltb kept_most c.args.self.kept if1.false,
-      ne_eqb (c.args.self.gone + c.args.self.kept) c.args.self.total (λ e. c.if-count-kept.true (rw (count2.ensures, count.ensures) e)),
+      le-ltb kept_most c.args.self.kept c.if-kept-gt-KEPT.false,
+      ne_eqb (c.args.self.gone + c.args.self.kept) c.args.self.total (λ e. c.if-count-kept.true (rw (c.count-2.ensures, c.count.ensures) e)),
     )
 
 pub returns-then-s-gt-NODES : goal.returns-then-s-gt-NODES
 unfolding bad
 returns-then-s-gt-NODES c =
-    let if1 = c.if-kept-gt-KEPT in
-    let count2 = c.count-2 in
-    let count = c.count in
-    let if2 = c.if-count-kept in
     rw (
-      le-ltb kept_most c.args.self.kept if1.false,
-      eq-eqb (c.args.self.gone + c.args.self.kept) c.args.self.total (rw (count2.ensures, count.ensures) at if2.false),
+      le-ltb kept_most c.args.self.kept c.if-kept-gt-KEPT.false,
+      eq-eqb (c.args.self.gone + c.args.self.kept) c.args.self.total (rw (c.count-2.ensures, c.count.ensures) at c.if-count-kept.false),
       too_many_nodes c.args.self.sheet c.if-s-gt-NODES.true,
     )
 
 pub returns : goal.returns
 unfolding bad
 returns c =
-    let if1 = c.if-kept-gt-KEPT in
-    let count2 = c.count-2 in
-    let count = c.count in
-    let if2 = c.if-count-kept in
     rw (
-      le-ltb kept_most c.args.self.kept if1.false,
-      eq-eqb (c.args.self.gone + c.args.self.kept) c.args.self.total (rw (count2.ensures, count.ensures) at if2.false),
+      le-ltb kept_most c.args.self.kept c.if-kept-gt-KEPT.false,
+      eq-eqb (c.args.self.gone + c.args.self.kept) c.args.self.total (rw (c.count-2.ensures, c.count.ensures) at c.if-count-kept.false),
       c.is_sound.ensures,
     )

@@ -11,9 +11,7 @@ next_row-requires c = c.requires.sounds
 pub returns-then-self-eq0 : goal.returns-then-self-eq0
 unfolding row_now
 returns-then-self-eq0 c =
-    let if1 = c.if-kept-eq0 in
-    let if2 = c.if-self-eq0 in
-    rw (c.next_row.ensures, eq-eqb c.args.self.kept 0 if1.true, eq-eqb c.args.self.total 0 if2.true)
+    rw (c.next_row.ensures, eq-eqb c.args.self.kept 0 c.if-kept-eq0.true, eq-eqb c.args.self.total 0 c.if-self-eq0.true)
 
 pub returns-then-kept-eq0 : goal.returns-then-kept-eq0
 unfolding row_now

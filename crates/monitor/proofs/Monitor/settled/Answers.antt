@@ -20,9 +20,8 @@ gone_few m k e = rw e (run_le (rules_in m.sheet) m.sets m.kept)
 
 pub row_before-before-requires : goal.row_before-before-requires
 row_before-before-requires c =
-    let fit = c.requires in
     let l = gone_few c.args.self _ c.front_closed-k.ensures in
-    let h = fit.few in
+    let h = c.requires.few in
     omega arith
 
 pub moved_up-later-requires : goal.moved_up-later-requires
@@ -30,16 +29,14 @@ moved_up-later-requires c = (gone_few c.args.self _ c.front_closed-k.ensures, c.
 
 pub overflow_cast-self : goal.overflow_cast-self
 overflow_cast-self c =
-    let fit = c.requires in
     let l = gone_few c.args.self _ c.front_closed-k.ensures in
-    let h = fit.few in
+    let h = c.requires.few in
     omega arith
 
 pub overflow_add-self : goal.overflow_add-self
 overflow_add-self c =
-    let fit = c.requires in
     let l = gone_few c.args.self _ c.front_closed-k.ensures in
-    let e = fit.counted in
+    let e = c.requires.counted in
     omega arith
 
 pub overflow_sub-self : goal.overflow_sub-self
@@ -48,7 +45,4 @@ overflow_sub-self c = gone_few c.args.self _ c.front_closed-k.ensures
 pub returns : goal.returns
 unfolding settled
 returns c =
-    let up = c.moved_up-later in
-    let row_before = c.row_before-before in
-    let front_closed = c.front_closed-k in
-    rw (up.ensures.0, up.ensures.1, row_before.ensures, front_closed.ensures)
+    rw (c.moved_up-later.ensures.0, c.moved_up-later.ensures.1, c.row_before-before.ensures, c.front_closed-k.ensures)

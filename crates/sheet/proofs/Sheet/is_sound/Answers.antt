@@ -16,21 +16,16 @@ returns-then-events-gt-EVENTS c = rw (le-leb 1 c.args.self.events c.if-events-lt
 pub returns-then-nodes-lt1 : goal.returns-then-nodes-lt1
 unfolding sound
 returns-then-nodes-lt1 c =
-    let if1 = c.if-events-lt1 in
-    let if2 = c.if-events-gt-EVENTS in
     rw
-    (le-leb 1 c.args.self.events if1.false, le-leb c.args.self.events events_most if2.false, lt-leb 1 c.args.self.nodes c.if-nodes-lt1.true)
+    (le-leb 1 c.args.self.events c.if-events-lt1.false, le-leb c.args.self.events events_most c.if-events-gt-EVENTS.false, lt-leb 1 c.args.self.nodes c.if-nodes-lt1.true)
 
 pub returns-then-nodes-gt-NODES : goal.returns-then-nodes-gt-NODES
 unfolding sound
 returns-then-nodes-gt-NODES c =
-    let if1 = c.if-events-lt1 in
-    let if2 = c.if-events-gt-EVENTS in
-    let if3 = c.if-nodes-lt1 in
     rw (
-      le-leb 1 c.args.self.events if1.false,
-      le-leb c.args.self.events events_most if2.false,
-      le-leb 1 c.args.self.nodes if3.false,
+      le-leb 1 c.args.self.events c.if-events-lt1.false,
+      le-leb c.args.self.events events_most c.if-events-gt-EVENTS.false,
+      le-leb 1 c.args.self.nodes c.if-nodes-lt1.false,
       lt-leb c.args.self.nodes nodes_most c.if-nodes-gt-NODES.true,
     )
 
@@ -43,16 +38,11 @@ nodes_sound-requires c = c.if-nodes-gt-NODES.false
 pub returns : goal.returns
 unfolding sound
 returns c =
-    let if1 = c.if-events-lt1 in
-    let if2 = c.if-events-gt-EVENTS in
-    let if3 = c.if-nodes-lt1 in
-    let if4 = c.if-nodes-gt-NODES in
-    let events-sound = c.events_sound in
     rw (
-      le-leb 1 c.args.self.events if1.false,
-      le-leb c.args.self.events events_most if2.false,
-      le-leb 1 c.args.self.nodes if3.false,
-      le-leb c.args.self.nodes nodes_most if4.false,
+      le-leb 1 c.args.self.events c.if-events-lt1.false,
+      le-leb c.args.self.events events_most c.if-events-gt-EVENTS.false,
+      le-leb 1 c.args.self.nodes c.if-nodes-lt1.false,
+      le-leb c.args.self.nodes nodes_most c.if-nodes-gt-NODES.false,
       c.nodes_sound.ensures,
-      events-sound.ensures,
+      c.events_sound.ensures,
     )

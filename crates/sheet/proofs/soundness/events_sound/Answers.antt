@@ -30,15 +30,9 @@ loop-e-smaller c = omega arith
 pub loop-e-preserved : goal.loop-e-preserved
 unfolding every sound_event
 loop-e-preserved c =
-    let power2 = c.power-in-loop-e in
-    let wide2 = c.wide-against in
-    let power = c.power in
-    let wide = c.wide in
-    let loop = c.loop-e in
-    (omega arith, rw (add-one, c.bit.ensures, power2.ensures, wide2.ensures, power.ensures, wide.ensures, loop.invariant.1))
+    (omega arith, rw (add-one, c.bit.ensures, c.power-in-loop-e.ensures, c.wide-against.ensures, c.power.ensures, c.wide.ensures, c.loop-e.invariant.1))
 
 pub returns : goal.returns
 returns c =
-    let loop = c.loop-e in
-    let e : loop.e ≡ c.args.events = omega arith in
-    loop.invariant.1 ∙ ap (λ (k : ℕ). every k (sound_event c.args.needs c.args.conflicts c.args.events)) e
+    let e : c.loop-e.e ≡ c.args.events = omega arith in
+    c.loop-e.invariant.1 ∙ ap (λ (k : ℕ). every k (sound_event c.args.needs c.args.conflicts c.args.events)) e
