@@ -5,20 +5,14 @@ use Rattle.meaning.specs.Records.{kind_of}
 use Rattle.meaning.specs.Refusals.{Answer, good, refused}
 use Rattle.meaning.specs.Sheet.{framed}
 use Rattle.records.specs.declared.Frame.{Frame}
-use Rattle.records.specs.declared.Record.{Record}
-use Rattle.records.specs.declared.Record.TheVariants.{Whole, Broken}
+use Rattle.records.specs.Codes.{named}
 
 -- the record whose bytes begin at a place
 unfoldable pub frame_at : List ℕ → ℕ → Frame
 frame_at s at =
     let r = drop at s in
-    record { kind = kind_of r; start = at + 4; len = get_or r 3 0; next = at + 4 + get_or r 3 0 }
+    record { kind = named (kind_of r); start = at + 4; len = get_or r 3 0; next = at + 4 + get_or r 3 0 }
 
 -- the record at a place, or the paper's number where it is not whole
 unfoldable pub framed_at : List ℕ → ℕ → Answer Frame
 framed_at s at = cond (framed (drop at s)) (good (frame_at s at)) (refused 11)
-
--- what a reader's answer says, in the paper's terms
-unfoldable pub answer : Record → Answer Frame
-answer (Whole f) = good f
-answer Broken = refused 11

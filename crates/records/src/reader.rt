@@ -1,8 +1,10 @@
 // Reading a sheet by holding it: thin functions over `step_at`.
 ghost use Rattle.std.specs.Prelude.{◌≡◌};
-ghost use Rattle.records.specs.Frames.{framed_at, answer};
+ghost use Rattle.refusals.specs.Numbers.{answer};
+ghost use Rattle.records.specs.Frames.{framed_at};
 
-use crate::{Record, step_at};
+use crate::{Frame, step_at};
+use refusals::Refusal;
 
 // A reader holds the sheet's bytes and its place in them.
 #[derive(Clone, Copy)]
@@ -27,7 +29,7 @@ impl<'a> Reader<'a> {
         }
     }
 
-    pub fn next(self) -> Record
+    pub fn next(self) -> Result<Frame, Refusal>
         ensures { answer result ≡ framed_at self.entry.bytes.now self.entry.at }
     {
         step_at(self.bytes, self.at)
@@ -35,7 +37,7 @@ impl<'a> Reader<'a> {
 }
 
 // What stands at a place, read through a reader: loading stands on this.
-pub fn read_at(s: &[u8], at: usize) -> Record
+pub fn read_at(s: &[u8], at: usize) -> Result<Frame, Refusal>
     ensures { answer result ≡ framed_at s.now at }
 {
     Reader::new(s).moved(at).next()
