@@ -1,7 +1,7 @@
 -- A framed record: what its frame says of the sheet's bytes.
 -- Assumes nothing.
 use Prim.Native.Nat.{ℕ, ◌+◌, ◌≤◌, ◌<◌}
-use mathlib.Core.Path.{◌≡◌, sym, ap, ◌∙◌, subst}
+use mathlib.Core.Path.{◌≡◌, refl, sym, ap, ap₂, ◌∙◌, subst}
 use mathlib.Core.Bool.{Bool, true, not, ◌&&◌, ◌||◌}
 use mathlib.Core.List.{List}
 use native.Mathlib.Omega.{arith}
@@ -11,12 +11,24 @@ use lib.Seq.{drop-drop}
 use borrow.Author.Tests.{eq-eqb, leb-true}
 use Rattle.meaning.specs.Limits.{root_least, of_root, of_node}
 use Rattle.meaning.specs.Records.{marked, kind_of}
-use Rattle.meaning.specs.Sheet.{Known, kinds, kind_at, known_kind, node_fits, payload, behind, whole, fits, framed, item_of, item_at}
+use Rattle.meaning.specs.Sheet.{kinds, kind_at, known_kind, node_fits, payload, behind, whole, fits, framed, kind_number, item_of, item_at}
 use Rattle.laws.proofs.Quantifiers.{and_left, and_right}
 use Rattle.laws.proofs.ByKind.{framed_known}
+use Rattle.records.specs.declared.kinds.Kind.{Kind}
+use Rattle.records.specs.declared.kinds.Kind.TheVariants.{Count, Cause, Conflict, Root, Node}
 use Rattle.records.specs.declared.Frame.{Frame}
+use Rattle.records.specs.Codes.{code}
+use Rattle.records.proofs.Named.{code_named}
 use Rattle.records.specs.Frames.{frame_at}
 use Rattle.faults.specs.Tallies.{Inside, payload_in, item_in}
+
+pub kind_of_code : (k : Kind) (p : List ℕ) → kind_number (item_of (code k) p) ≡ code k
+unfolding kind_number item_of
+kind_of_code Count p = refl
+kind_of_code Cause p = refl
+kind_of_code Conflict p = refl
+kind_of_code Root p = refl
+kind_of_code Node p = refl
 
 module _ (s : List ℕ) (at : ℕ) (e : framed (drop at s) ≡ true) where
   abbrev f : Frame
@@ -39,9 +51,10 @@ module _ (s : List ℕ) (at : ℕ) (e : framed (drop at s) ≡ true) where
   pub frame_at_lem : at < length s
   frame_at_lem = let w = room in omega (arith, length-drop at s)
 
-  pub frame_known : Known f.kind
+  -- the kind is the byte's
+  pub frame_kind : code f.kind ≡ kind_of r
   unfolding frame_at
-  frame_known = framed_known r e
+  frame_kind = code_named (kind_of r) (framed_known r e)
 
   pub frame_inside : Inside s f
   unfolding frame_at
@@ -56,27 +69,27 @@ module _ (s : List ℕ) (at : ℕ) (e : framed (drop at s) ≡ true) where
   frame_payload = ap (take (get_or r 3 0)) (sym (drop-drop 4 at s))
 
   pub frame_item : item_in s f ≡ item_at r
-  unfolding item_in item_at frame_at
-  frame_item = ap (item_of (kind_of r)) frame_payload
+  unfolding item_in item_at
+  frame_item = ap₂ item_of frame_kind frame_payload
 
   pub frame_behind : drop f.next s ≡ behind r
   unfolding frame_at behind
   frame_behind = let w : at + (4 + get_or r 3 0) ≡ at + 4 + get_or r 3 0 = omega arith in sym (drop-drop (4 + get_or r 3 0) at s ∙ ap (λ (n : ℕ). drop n s) w)
 
-  pub frame_node : f.kind ≡ of_node → node_fits (payload_in s f) ≡ true
-  unfolding frame_at fits
+  pub frame_node : code f.kind ≡ of_node → node_fits (payload_in s f) ≡ true
+  unfolding fits
   frame_node q =
       rw frame_payload
-      (subst (λ (t : Bool). (not t || node_fits (payload r)) ≡ true) (eq-eqb (kind_of r) of_node q)
+      (subst (λ (t : Bool). (not t || node_fits (payload r)) ≡ true) (eq-eqb (kind_of r) of_node (sym frame_kind ∙ q))
       (and_right (leb (kind_at (kind_of r)).least (length (payload r)) && leb (length (payload r)) (kind_at (kind_of r)).greatest) _ parts.2))
 
   -- a root has an access, an event and a path that is not too short
-  pub frame_root : f.kind ≡ of_root → 2 + root_least ≤ f.len
+  pub frame_root : code f.kind ≡ of_root → 2 + root_least ≤ f.len
   unfolding frame_at fits kinds kind_at payload
   frame_root q =
       let long-enough = leb (kind_at (kind_of r)).least (length (payload r)) in
       let short-enough = leb (length (payload r)) (kind_at (kind_of r)).greatest in
       let size = leb-true (kind_at (kind_of r)).least (length (payload r)) (and_left long-enough short-enough (and_left (long-enough && short-enough) _ parts.2)) in
-      let enough : 2 + root_least ≤ length (payload r) = subst (λ (k : ℕ). (kind_at k).least ≤ length (payload r)) q size in
+      let enough : 2 + root_least ≤ length (payload r) = subst (λ (k : ℕ). (kind_at k).least ≤ length (payload r)) (sym frame_kind ∙ q) size in
       let short = length-take (get_or r 3 0) (drop 4 r) in
       omega arith

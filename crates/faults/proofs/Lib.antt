@@ -1,4 +1,3 @@
 pub mod Order
 pub mod Range
-pub mod Judge
 pub mod Framed

@@ -1,35 +1,33 @@
 -- Numbers in range: what a payload of each kind says.
 -- Assumes nothing.
-use Prim.Native.Nat.{ℕ}
-use mathlib.Core.Path.{◌≡◌, refl}
-use mathlib.Core.Bool.{◌&&◌}
-use mathlib.Core.List.{List}
-use lib.Dec.{leb, ltb}
-use lib.ListN.{get_or}
-use Rattle.meaning.specs.Limits.{events_most, of_count, of_root, of_node}
+use Prim.Native.Nat.{ℕ, ◌<◌}
+use mathlib.Core.Path.{◌≡◌}
+use mathlib.Core.Bool.{true, ◌&&◌}
+use mathlib.Core.Logic.{◌⊎◌, inl, inr}
+use native.Mathlib.Omega.{arith}
+use lib.Dec.{ltb}
 use Rattle.meaning.specs.Rules.{node_in_range}
-use Rattle.meaning.specs.Sheet.{Known, node_of, root_in, node_in, item_of, known_access, pair_in_range, in_range}
-use Rattle.laws.proofs.ByKind.{known_cases}
+use Rattle.meaning.specs.Sheet.{node_kinds, node_kind, node_of}
+use Rattle.laws.proofs.Nodes.{node_else}
 
-module _ (events earlier : ℕ) (p : List ℕ) where
-  pub range_count : (k : ℕ) → k ≡ of_count → in_range events earlier (item_of k p) ≡ (leb 1 (get_or p 0 0) && leb (get_or p 0 0) events_most)
-  unfolding in_range item_of
-  range_count k e = rw e
+-- what node kinds there are, by what their operands name
+module _ (k a b events earlier : ℕ) where
+  pub one_event : (k ≡ 1) ⊎ (k ≡ 2) → node_in_range events earlier (node_of k a b) ≡ ltb a events
+  unfolding node_of node_kind node_kinds node_in_range
+  one_event (inl e) = rw e
+  one_event (inr e) = rw e
 
-  pub range_root : (k : ℕ) → k ≡ of_root → in_range events earlier (item_of k p) ≡ (leb (get_or p 0 0) 1 && ltb (get_or p 1 0) events)
-  unfolding in_range item_of root_in known_access
-  range_root k e = rw e
+  pub one_node : (k ≡ 3) ⊎ (k ≡ 6) → node_in_range events earlier (node_of k a b) ≡ ltb a earlier
+  unfolding node_of node_kind node_kinds node_in_range
+  one_node (inl e) = rw e
+  one_node (inr e) = rw e
 
-  pub range_node : (k : ℕ) → k ≡ of_node → in_range events earlier (item_of k p) ≡ node_in_range events earlier (node_of (get_or p 0 0) (get_or p 1 0) (get_or p 2 0))
-  unfolding in_range item_of node_in
-  range_node k e = rw e
+  pub two_nodes : (k ≡ 4) ⊎ ((k ≡ 5) ⊎ (k ≡ 7)) → node_in_range events earlier (node_of k a b) ≡ (ltb a earlier && ltb b earlier)
+  unfolding node_of node_kind node_kinds node_in_range
+  two_nodes (inl e) = rw e
+  two_nodes (inr (inl e)) = rw e
+  two_nodes (inr (inr e)) = rw e
 
-  pub range_pair :
-      (k : ℕ) → Known k → (k ≡ of_count → ⊥) → (k ≡ of_root → ⊥) → (k ≡ of_node → ⊥)
-      → in_range events earlier (item_of k p) ≡ pair_in_range events (get_or p 0 0) (get_or p 1 0)
-  unfolding in_range item_of
-  range_pair =
-      known_cases
-      (λ k. (k ≡ of_count → ⊥) → (k ≡ of_root → ⊥) → (k ≡ of_node → ⊥)
-      → in_range events earlier (item_of k p) ≡ pair_in_range events (get_or p 0 0) (get_or p 1 0))
-      (λ a b c. absurd (a refl)) (λ a b c. refl) (λ a b c. refl) (λ a b c. absurd (b refl)) (λ a b c. absurd (c refl))
+  pub no_operand : (k ≡ 0) ⊎ (7 < k) → node_in_range events earlier (node_of k a b) ≡ true
+  unfolding node_in_range
+  no_operand h = rw (node_else k a b (λ e. omega arith) (λ e. omega arith) (λ e. omega arith) (λ e. omega arith) (λ e. omega arith) (λ e. omega arith) (λ e. omega arith))

@@ -1,88 +1,44 @@
 // The order of records: what stands in a payload, and whether one record may follow another.
 ghost use Rattle.std.specs.Prelude.{◌≡◌, ◌||◌, get_or, drop};
 ghost use Rattle.meaning.specs.Lists.{is_empty};
-ghost use Rattle.meaning.specs.Sheet.{Known, item_of, key_of, ascends as ascends_bytes, disordered as disordered_item};
+ghost use Rattle.meaning.specs.Sheet.{item_of, key_of, ascends as ascends_bytes, disordered as disordered_item};
+ghost use Rattle.records.specs.Codes.{code};
+
+use records::Kind;
 
 // The byte at i, 0 past the end.
 pub fn byte(p: &[u8], i: usize) -> u8
     ensures { result ≡ get_or p.now i 0 }
 {
-    if i < p.len() { p[i] } else { 0 }
+    p.get(i).copied().unwrap_or(0)
 }
 
 // The bytes from the third on.
 pub fn tail(p: &[u8]) -> &[u8]
     ensures { result.now ≡ drop 2 p.now }
 {
-    if p.len() < 2 {
-        return &p[0..0];
-    }
-    &p[2..]
-}
-
-// Whether x comes before y, byte by byte, a proper prefix first.
-fn ascends(x: &[u8], y: &[u8]) -> bool
-    ensures { result ≡ ascends_bytes x.now y.now }
-{
-    let mut i = 0;
-    while i < y.len() {
-        if x.len() <= i {
-            return true;
-        }
-        if x[i] < y[i] {
-            return true;
-        }
-        if y[i] < x[i] {
-            return false;
-        }
-        i += 1;
-    }
-    false
+    p.get(2..).unwrap_or(&[])
 }
 
 // Whether a payload may stand behind another of its kind.
-fn follows(kind: u8, last: &[u8], p: &[u8]) -> bool
-    requires { Known kind }
-    ensures { result ≡ (is_empty (key_of (item_of kind p.now)) || ascends_bytes (key_of (item_of kind last.now)) (key_of (item_of kind p.now))) }
+#[tactic(auto, using(crate::proofs::Order::follows_root, crate::proofs::Order::follows_pair), unfolding(meaning::specs::Sheet::item_of, meaning::specs::Sheet::root_in, meaning::specs::Sheet::key_of, meaning::specs::Lists::is_empty))]
+fn follows(kind: Kind, last: &[u8], p: &[u8]) -> bool
+    ensures { result ≡ (is_empty (key_of (item_of (code kind) p.now)) || ascends_bytes (key_of (item_of (code kind) last.now)) (key_of (item_of (code kind) p.now))) }
 {
-    if kind == limits::COUNT {
-        return true;
+    match kind {
+        Kind::Count | Kind::Node => true,
+        Kind::Root => (byte(last, 0), tail(last)) < (byte(p, 0), tail(p)),
+        Kind::Cause | Kind::Conflict => {
+            (byte(last, 0), byte(last, 1)) < (byte(p, 0), byte(p, 1))
+        }
     }
-    if kind == limits::NODE {
-        return true;
-    }
-    let a = byte(last, 0);
-    let b = byte(p, 0);
-    let c = byte(last, 1);
-    let d = byte(p, 1);
-    if a < b {
-        return true;
-    }
-    if b < a {
-        return false;
-    }
-    if kind == limits::ROOT {
-        return ascends(tail(last), tail(p));
-    }
-    c < d
 }
 
-// Whether a record is out of order behind the last one, of kind 0 where there is none.
-pub fn disordered(before: u8, last: &[u8], kind: u8, p: &[u8]) -> bool
-    requires { Known kind }
-    ensures { result ≡ disordered_item before (key_of (item_of before last.now)) (item_of kind p.now) }
+// Whether a record is out of order behind the last one.
+#[tactic(auto, using(crate::proofs::Framed::kind_of_code), unfolding(meaning::specs::Sheet::disordered))]
+pub fn disordered(before: Kind, last: &[u8], kind: Kind, p: &[u8]) -> bool
+    ensures { result ≡ disordered_item (code before) (key_of (item_of (code before) last.now)) (item_of (code kind) p.now) }
 {
-    if before == 0 {
-        return kind != limits::COUNT;
-    }
-    if kind == limits::COUNT {
-        return true;
-    }
-    if kind < before {
-        return true;
-    }
-    if before < kind {
-        return false;
-    }
-    !follows(kind, last, p)
+    let earlier = kind.place() < before.place();
+    kind == Kind::Count || earlier || (kind == before && !follows(kind, last, p))
 }

@@ -2,82 +2,76 @@
 #![tactic(auto)]
 
 ghost use Rattle.std.specs.Prelude.{◌≡◌, not};
-ghost use Rattle.meaning.specs.Sheet.{Known, item_of, root_formed, item_fault};
-ghost use Rattle.faults.specs.Tallies.{Inside, payload_in, item_in, tallied};
+ghost use Rattle.meaning.specs.Sheet.{item_of, root_formed, item_fault, disordered};
+ghost use Rattle.refusals.specs.Numbers.{fault};
+ghost use Rattle.records.specs.Codes.{code};
+ghost use Rattle.faults.specs.Tallies.{Inside, LastInside, last_kind, last_key, payload_in, item_in, tallied};
 
-use records::Frame;
+use records::{Frame, KINDS, Kind};
+use refusals::Refusal;
 
 pub mod keys;
 pub mod ranges;
 
-// What of the records before a record decides on it: the last of them (of kind 0 where there is none), the number of events, and how many
-// of each kind there were, kind 1 first.
+// What of the records before a record decides on it: the last of them, the number of events, and how many of each kind there were, kind 1 first.
 #[derive(Clone, Copy)]
 pub struct Tally {
-    pub last: Frame,
+    pub last: Option<Frame>,
     pub events: usize,
-    pub seen: [usize; limits::KINDS],
+    pub seen: [usize; KINDS],
 }
-
-// For each kind, from 1 on: how many records there may be.
-const MOST: [usize; limits::KINDS] = [
-    1,
-    limits::CAUSES,
-    limits::CONFLICTS,
-    limits::ROOTS,
-    limits::NODES,
-];
-
-// Where the number of nodes stands among those of each kind.
-const NODES_AT: usize = limits::NODE as usize - 1;
 
 // A record's payload.
 pub fn payload(s: &[u8], f: Frame) -> &[u8]
     requires { Inside s.now f }
     ensures { result.now ≡ payload_in s.now f }
 {
-    let start = f.start;
-    let end = start + f.len;
-    &s[start..end]
+    &s[f.start..f.start + f.len]
+}
+
+// Whether a record of the kind with the payload p is out of order behind the last, or as the first.
+#[tactic(auto, using(crate::proofs::Framed::kind_of_code), unfolding(crate::specs::Tallies::item_in, meaning::specs::Sheet::disordered))]
+fn out_of_order(s: &[u8], last: Option<Frame>, kind: Kind, p: &[u8]) -> bool
+    requires { LastInside s.now last }
+    ensures { result ≡ disordered (last_kind last) (last_key s.now last) (item_of (code kind) p.now) }
+{
+    match last {
+        Some(f) => keys::disordered(f.kind, payload(s, f), kind, p),
+        None => kind != Kind::Count,
+    }
 }
 
 // Whether the payload is of a root whose path is malformed.
-fn malformed(kind: u8, p: &[u8]) -> bool
-    requires { Known kind }
-    ensures { result ≡ not (root_formed (item_of kind p.now)) }
+#[tactic(auto, unfolding(meaning::specs::Sheet::root_formed, meaning::specs::Sheet::item_of, meaning::specs::Sheet::root_in))]
+fn malformed(kind: Kind, p: &[u8]) -> bool
+    ensures { result ≡ not (root_formed (item_of (code kind) p.now)) }
 {
-    if kind == limits::ROOT {
-        return !form::well_formed(keys::tail(p));
-    }
-    false
+    kind == Kind::Root && !form::well_formed(keys::tail(p))
 }
 
-// The number of the fault, or 0.
-pub fn fault(s: &[u8], t: Tally, f: Frame) -> u32
-    requires { (Inside s.now t.last) × (Inside s.now f) × Known f.kind }
-    ensures { result ≡ item_fault (tallied s.now t) (item_in s.now f) }
+// The record's fault, where it has one.
+#[tactic(auto, using(crate::proofs::Framed::kind_of_code), unfolding(crate::specs::Tallies::item_in, crate::specs::Tallies::tallied, meaning::specs::Sheet::so_far, meaning::specs::Sheet::item_fault))]
+pub fn fault(s: &[u8], t: &Tally, f: Frame) -> Result<(), Refusal>
+    requires { LastInside s.now t.now.last × Inside s.now f }
+    ensures { fault result ≡ item_fault (tallied s.now t.now) (item_in s.now f) }
 {
     let kind = f.kind;
-    let last = t.last;
-    let before = last.kind;
     let p = payload(s, f);
-    let out = keys::disordered(before, payload(s, last), kind, p);
-    let k = (kind - 1) as usize;
-    let full = MOST[k] <= t.seen[k];
-    let earlier = t.seen[NODES_AT];
-    let wrong = !ranges::in_range(kind, p, t.events, earlier);
+    let out = out_of_order(s, t.last, kind, p);
+    let full = kind.most() <= t.seen[kind.place()];
+    let wrong = !ranges::in_range(kind, p, t.events, t.seen[Kind::Node.place()]);
     let odd = malformed(kind, p);
     if out {
-        return 12;
+        return Err(Refusal::OutOfOrder);
     }
     if full {
-        return 15;
+        return Err(Refusal::TooMany);
     }
     if wrong {
-        return 13;
+        return Err(Refusal::OutOfRange);
     }
     if odd {
-        return 14;
+        return Err(Refusal::MalformedRoot);
     }
-    0
+    Ok(())
 }

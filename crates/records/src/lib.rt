@@ -11,7 +11,7 @@ use refusals::Refusal;
 mod kinds;
 mod reader;
 
-pub use kinds::{Kind, OPERANDS};
+pub use kinds::{KINDS, Kind, OPERANDS};
 pub use reader::{Reader, read_at};
 
 // A record's kind, where its payload starts and how long it is, and where the next record stands.
