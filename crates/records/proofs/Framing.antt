@@ -64,18 +64,18 @@ unfolding framed_at
 stands s at e = rw e
 
 -- and back
-pub broken_says : (s : List ℕ) (at : ℕ) → framed_at s at ≡ refused 11 → framed (drop at s) ≡ false
+pub broken_says : (s : List ℕ) (at n : ℕ) → refused n ≡ framed_at s at → (framed (drop at s) ≡ false) × (n ≡ 11)
 unfolding framed_at
-broken_says s at e = go (framed (drop at s)) e
+broken_says s at n e = go (framed (drop at s)) e
   where
-    go : (t : Bool) → cond t (good (frame_at s at)) (refused 11) ≡ refused 11 → t ≡ false
+    go : (t : Bool) → refused n ≡ cond t (good (frame_at s at)) (refused 11) → (t ≡ false) × (n ≡ 11)
     go true e = absurd (let z : ◌≡◌ {A = ℕ} 0 1 = cc in omega arith)
-    go false e = refl
+    go false e = (refl, cc)
 
-pub whole_says : (s : List ℕ) (at : ℕ) (f : Frame) → framed_at s at ≡ good f → (framed (drop at s) ≡ true) × (f ≡ frame_at s at)
+pub whole_says : (s : List ℕ) (at : ℕ) (f : Frame) → good f ≡ framed_at s at → (framed (drop at s) ≡ true) × (f ≡ frame_at s at)
 unfolding framed_at
 whole_says s at f e = go (framed (drop at s)) e
   where
-    go : (t : Bool) → cond t (good (frame_at s at)) (refused 11) ≡ good f → (t ≡ true) × (f ≡ frame_at s at)
+    go : (t : Bool) → good f ≡ cond t (good (frame_at s at)) (refused 11) → (t ≡ true) × (f ≡ frame_at s at)
     go true e = (refl, cc)
     go false e = absurd (let z : ◌≡◌ {A = ℕ} 0 1 = cc in omega arith)

@@ -15,18 +15,18 @@ use Rattle.meaning.specs.Refusals.{good, refused}
 use Rattle.meaning.specs.Rules.{Node}
 use Rattle.meaning.specs.Limits.{sheet_most}
 use Rattle.meaning.specs.Records.{kind_of}
-use Rattle.meaning.specs.Sheet.{Item, Reading, nothing_read, payload, behind, framed, item_of, item_at, key_of, noted, after_record, tally, node_fits, item_fault, fault, walk, with_nodes, sheet_of}
+use Rattle.meaning.specs.Sheet.{Item, Reading, nothing_read, payload, behind, framed, Known, item_of, item_at, key_of, noted, after_record, tally, node_fits, item_fault, fault, walk, with_nodes, sheet_of}
 use Rattle.meaning.specs.Sheet
 use Rattle.laws.proofs.Accepted.{walk_end}
-use Rattle.laws.proofs.ByKind.{seen_after}
+use Rattle.laws.proofs.ByKind.{framed_known, seen_after}
 use Rattle.laws.proofs.Lawful.{passed, Lawful, lawful_start, lawful_after}
 use Rattle.records.specs.declared.Frame.{Frame}
+use Rattle.records.specs.Codes.{code}
 use Rattle.records.specs.Frames.{frame_at}
 use Rattle.faults.specs.declared.Tally.{Tally}
-use Rattle.faults.specs.Tallies.{Inside, payload_in, item_in, tallied}
-use Rattle.faults.proofs.Framed.{frame_at_lem, frame_known, frame_inside, frame_next, frame_payload, frame_item, frame_behind, frame_node}
+use Rattle.faults.specs.Tallies.{LastInside, payload_in, item_in, tallied}
+use Rattle.faults.proofs.Framed.{frame_at_lem, frame_kind, frame_inside, frame_next, frame_payload, frame_item, frame_behind, frame_node}
 use Rattle.sheet.specs.declared.Sheet.{Sheet}
-use Rattle.sheet.specs.declared.Loaded.{Loaded}
 use Rattle.sheet.specs.Loads.{table_of, kind_of_node, left_of, right_of, nothing, stored, answered}
 use Rattle.sheet.specs.ByRecord.{put_record, counted, no_tally}
 use Rattle.sheet.proofs.Growing.{stored_after}
@@ -36,7 +36,7 @@ use Rattle.sheet.proofs.Growing.{stored_after}
 pub record Stands (s : List ℕ) (x : Sheet) (t : Tally) (g : Reading) : Type 0 where
   pub kept : x ≡ stored g.lists
   pub tallies : tallied s t ≡ tally g
-  pub inside : Inside s t.last
+  pub inside : LastInside s t.last
   pub lawful : Lawful g
 
 -- and for the rest of the sheet: the walk goes on from at, with steps enough
@@ -52,7 +52,7 @@ unfolding nothing stored nothing_read no_tally tallied tally item_in payload_in 
 start s =
     record {
       reading = nothing_read;
-      stands = record { kept = refl; tallies = refl; inside = omega arith; lawful = lawful_start };
+      stands = record { kept = refl; tallies = refl; inside = tt; lawful = lawful_start };
       steps = length s;
       enough = omega arith;
       same = refl;
@@ -106,7 +106,7 @@ module _ (s : List ℕ) (x : Sheet) (t : Tally) (at : ℕ) (w : Walking s x t at
     -- a record without fault is taken
     module _ (z : 0 ≡ item_fault (tallied s t) (item_in s fr)) where
       abbrev y : Sheet
-      y = put_record x fr.kind (payload_in s fr)
+      y = put_record x (code fr.kind) (payload_in s fr)
 
       abbrev k : ℕ
       k = kind_of rest
@@ -114,29 +114,33 @@ module _ (s : List ℕ) (x : Sheet) (t : Tally) (at : ℕ) (w : Walking s x t at
       abbrev p : List ℕ
       p = payload rest
 
+      known : Known k
+      known = framed_known rest e
+
       pub passes_by : item_fault (tally g) (item_of k p) ≡ 0
       unfolding item_at
       passes_by = sym (z ∙ ap₂ item_fault w.stands.tallies (frame_item s at e))
 
       grown : y ≡ stored (noted g.lists k p)
-      unfolding frame_at
       grown =
-          ap₂ (λ (v : Sheet) (l : List ℕ). put_record v k l) w.stands.kept (frame_payload s at e)
+          ap (λ (i : ℕ). put_record x i (payload_in s fr)) (frame_kind s at e)
+          ∙ ap₂ (λ (v : Sheet) (l : List ℕ). put_record v k l) w.stands.kept (frame_payload s at e)
           ∙ sym
-          (stored_after g w.stands.lawful p k (frame_known s at e) (λ q. ap node_fits (sym (frame_payload s at e)) ∙ frame_node s at e q) passes_by)
+          (stored_after g w.stands.lawful p k known (λ q. ap node_fits (sym (frame_payload s at e)) ∙ frame_node s at e (frame_kind s at e ∙ q)) passes_by)
 
       counts : (counted t fr y.events).seen ≡ (tally (after_record g k p)).seen
-      unfolding counted frame_at tallied tally item_of
+      unfolding counted tallied tally item_of
       counts =
-          ap (λ (l : List ℕ). set l (k - 1) (get_or l (k - 1) 0 + 1)) (ap (λ (u : Sheet.Tally). u.seen) w.stands.tallies)
-          ∙ sym (seen_after g k (frame_known s at e) p (passed (tally g) (item_of k p) passes_by).ordered)
+          ap (λ (i : ℕ). set t.seen (i - 1) (get_or t.seen (i - 1) 0 + 1)) (frame_kind s at e)
+          ∙ ap (λ (l : List ℕ). set l (k - 1) (get_or l (k - 1) 0 + 1)) (ap (λ (u : Sheet.Tally). u.seen) w.stands.tallies)
+          ∙ sym (seen_after g k known p (passed (tally g) (item_of k p) passes_by).ordered)
 
       tally_is : tallied s (counted t fr y.events) ≡ tally (after_record g k p)
-      unfolding tallied counted tally after_record stored frame_at item_in
+      unfolding tallied counted tally after_record stored item_at
       tally_is = λ j.
           record {
-            kind = k;
-            key = key_of (item_of k (frame_payload s at e j));
+            kind = frame_kind s at e j;
+            key = key_of (frame_item s at e j);
             events = (grown j).events;
             seen = counts j;
           }
@@ -155,7 +159,7 @@ module _ (s : List ℕ) (x : Sheet) (t : Tally) (at : ℕ) (w : Walking s x t at
                       kept = grown;
                       tallies = tally_is;
                       inside = frame_inside s at e;
-                      lawful = lawful_after g w.stands.lawful p k (frame_known s at e) passes_by;
+                      lawful = lawful_after g w.stands.lawful p k known passes_by;
                     };
                 steps = m;
                 enough = let l = frame_next s at e in omega arith;
@@ -172,8 +176,8 @@ module _ (s : List ℕ) (h : length s ≤ sheet_most) where
   unfolding sheet_of
   of_walk = rw (le-ltb sheet_most (length s) h)
 
-  pub answers_refused : (n : ℕ) → walk (length s) nothing_read s ≡ refused n → answered (refused n) ≡ answered (sheet_of s)
-  unfolding with_nodes
+  pub answers_refused : (n : ℕ) → walk (length s) nothing_read s ≡ refused n → refused n ≡ answered (sheet_of s)
+  unfolding with_nodes answered
   answers_refused n e = sym (ap answered (of_walk ∙ ap with_nodes e))
 
   module _ (x : Sheet) (t : Tally) (at : ℕ) (w : Walking s x t at) (l : length s ≤ at) where
@@ -185,24 +189,24 @@ module _ (s : List ℕ) (h : length s ≤ sheet_most) where
     unfolding with_nodes
     empty_of b e = of_walk ∙ ap with_nodes (ends_well s x t at w l) ∙ ap (λ (c : Bool). cond c (refused 16) (good w.reading.lists)) e
 
-    pub answers_no_node : x.nodes ≡ 0 → answered (refused 16) ≡ answered (sheet_of s)
-    unfolding is_empty
+    pub answers_no_node : x.nodes ≡ 0 → refused 16 ≡ answered (sheet_of s)
+    unfolding is_empty answered
     answers_no_node e = sym (ap answered (empty_of true (none w.reading.lists.nodes (sym nodes_of ∙ e))))
       where
         none : (ns : List Node) → length ns ≡ 0 → is_empty ns ≡ true
         none [] e = refl
         none (v ∷ ns) e = absurd (omega arith)
 
-    pub answers_sheet : (x.nodes ≡ 0 → ⊥) → ◌≡◌ {A = Loaded} (record { number = 0; sheet = x }) (answered (sheet_of s))
+    pub answers_sheet : (x.nodes ≡ 0 → ⊥) → good x ≡ answered (sheet_of s)
     unfolding is_empty answered
     answers_sheet ne =
-        ap (λ (y : Sheet). record { number = 0; sheet = y }) w.stands.kept
+        ap good w.stands.kept
         ∙ sym (ap answered (empty_of false (someone w.reading.lists.nodes (λ e. ne (nodes_of ∙ e)))))
       where
         someone : (ns : List Node) → (length ns ≡ 0 → ⊥) → is_empty ns ≡ false
         someone [] n = absurd (n refl)
         someone (v ∷ ns) n = refl
 
-pub answers_long : (s : List ℕ) → sheet_most < length s → answered (refused 10) ≡ answered (sheet_of s)
-unfolding sheet_of
-answers_long s h = ap answered (rw (lt-ltb sheet_most (length s) h))
+pub answers_long : (s : List ℕ) → sheet_most < length s → refused 10 ≡ answered (sheet_of s)
+unfolding sheet_of answered
+answers_long s h = rw (lt-ltb sheet_most (length s) h)

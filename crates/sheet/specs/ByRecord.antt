@@ -1,10 +1,10 @@
 -- SCAFFOLDING. How the loaded sheet and the tally grow record by record: what the loader's own functions promise one another.
 -- Assumes nothing.
-use Rattle.std.specs.Prelude.{ℕ, ◌+◌, ◌-◌, ◌^◌, ◌<◌, ◌≡◌, cond, List, eqb, get_or, set, replicate}
+use Rattle.std.specs.Prelude.{ℕ, ◌+◌, ◌-◌, ◌^◌, ◌<◌, ◌≡◌, cond, List, eqb, get_or, set, replicate, Some, None}
 use Rattle.std.specs.Int.Bits.{bit_or}
 use Rattle.meaning.specs.Limits.{events_most, nodes_most, sheet_most, kind_last, of_count, of_cause, of_conflict, of_node}
-use Rattle.meaning.specs.Sheet.{Known}
 use Rattle.records.specs.declared.Frame.{Frame}
+use Rattle.records.specs.Codes.{code}
 use Rattle.faults.specs.declared.Tally.{Tally}
 use Rattle.sheet.specs.declared.Sheet.{Sheet}
 
@@ -42,13 +42,13 @@ pub record Fitting (nodes k : ℕ) (p : List ℕ) : Type 0 where
 -- the tally after a record, with the number of events as it is then
 unfoldable pub counted : Tally → Frame → ℕ → Tally
 counted t f events =
-    let i = f.kind - 1 in
-    record { last = f; events = events; seen = set t.seen i (get_or t.seen i 0 + 1) }
+    let i = code f.kind - 1 in
+    record { last = Some f; events = events; seen = set t.seen i (get_or t.seen i 0 + 1) }
 
--- a record can be counted: it is of a known kind, of which there are not too many
+-- a record can be counted: of its kind there are not too many
 abbrev pub Countable : Tally → Frame → Type 0
-Countable t f = Known f.kind × (get_or t.seen (f.kind - 1) 0 < sheet_most)
+Countable t f = get_or t.seen (code f.kind - 1) 0 < sheet_most
 
 -- before the first record
 unfoldable pub no_tally : Tally
-no_tally = record { last = record { kind = 0; start = 0; len = 0; next = 0 }; events = 0; seen = replicate kind_last 0 }
+no_tally = record { last = None; events = 0; seen = replicate kind_last 0 }

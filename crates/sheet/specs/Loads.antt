@@ -7,7 +7,6 @@ use Rattle.meaning.specs.Events.{needed_by, conflicting_with}
 use Rattle.meaning.specs.Refusals.{Answer, good, refused}
 use Rattle.meaning.specs.Sheet
 use Rattle.sheet.specs.declared.Sheet.{Sheet}
-use Rattle.sheet.specs.declared.Loaded.{Loaded}
 
 -- f 0, f 1, .. f (n - 1)
 unfoldable pub table_of : ℕ → (ℕ → ℕ) → List ℕ
@@ -72,6 +71,6 @@ nothing =
     }
 
 -- a refused load gives no sheet
-unfoldable pub answered : Answer Sheet.Sheet → Loaded
-answered (good s) = record { number = 0; sheet = stored s }
-answered (refused n) = record { number = n; sheet = nothing }
+unfoldable pub answered : Answer Sheet.Sheet → Answer Sheet
+answered (good s) = good (stored s)
+answered (refused n) = refused n

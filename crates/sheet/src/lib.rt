@@ -3,13 +3,15 @@
 
 ghost use Rattle.std.specs.Prelude.{◌≡◌, ◌<◌};
 ghost use Rattle.meaning.specs.Limits.{events_most};
-ghost use Rattle.meaning.specs.Refusals.{refused};
 ghost use Rattle.meaning.specs.Sheet.{sheet_of};
+ghost use Rattle.refusals.specs.Numbers.{answer};
+ghost use Rattle.records.specs.Codes.{code};
 ghost use Rattle.sheet.specs.Loads.{nothing, answered};
-ghost use Rattle.sheet.specs.ByRecord.{with_cause, with_conflict, Fitting, put_record, Countable, counted, no_tally};
+ghost use Rattle.sheet.specs.ByRecord.{with_cause, with_conflict, Fitting, put_record, Countable, counted};
 
 use faults::{Tally, keys};
-use records::{Frame, Record};
+use records::{Frame, KINDS, Kind};
+use refusals::Refusal;
 
 mod soundness;
 
@@ -27,38 +29,32 @@ pub struct Sheet {
     pub right: [u8; limits::NODES],
 }
 
-// The loaded sheet and 0; or the number of the refusal, and a sheet whose every number is 0.
-#[derive(Clone, Copy)]
-pub struct Loaded {
-    pub number: u32,
-    pub sheet: Sheet,
-}
-
 // b needs a, and whatever a needs.
-fn with_cause(mut needs: [u32; limits::EVENTS], a: u8, b: u8) -> [u32; limits::EVENTS]
+#[tactic(auto, using(laws::proofs::SetLaws::one_shl), unfolding(crate::specs::ByRecord::with_cause))]
+fn add_cause(needs: &mut [u32; limits::EVENTS], a: u8, b: u8)
     requires { (a < events_most) × (b < events_most) }
-    ensures { result ≡ with_cause needs a b }
+    ensures { needs.new ≡ with_cause needs.old a b }
 {
-    let x = a as usize;
-    let y = b as usize;
+    let x = usize::from(a);
+    let y = usize::from(b);
     needs[y] = needs[y] | needs[x] | (1 << a);
-    needs
 }
 
 // a and b conflict, both ways.
-fn with_conflict(mut conflicts: [u32; limits::EVENTS], a: u8, b: u8) -> [u32; limits::EVENTS]
+#[tactic(auto, using(laws::proofs::SetLaws::one_shl), unfolding(crate::specs::ByRecord::with_conflict))]
+fn add_conflict(conflicts: &mut [u32; limits::EVENTS], a: u8, b: u8)
     requires { (a < events_most) × (b < events_most) }
-    ensures { result ≡ with_conflict conflicts a b }
+    ensures { conflicts.new ≡ with_conflict conflicts.old a b }
 {
-    let x = a as usize;
-    let y = b as usize;
+    let x = usize::from(a);
+    let y = usize::from(b);
     conflicts[x] = conflicts[x] | (1 << b);
     conflicts[y] = conflicts[y] | (1 << a);
-    conflicts
 }
 
 impl Sheet {
     // No events and no nodes: what is loaded of nothing.
+    #[tactic(auto, unfolding(crate::specs::Loads::nothing))]
     pub fn empty() -> Self
         ensures { result ≡ nothing }
     {
@@ -73,101 +69,64 @@ impl Sheet {
         }
     }
 
-    // The sheet with what a record of the kind with this payload adds. Roots are read from the bytes, and not kept.
-    fn with_record(mut self, kind: u8, p: &[u8]) -> Self
-        requires { Fitting self.nodes kind p.now }
-        ensures { result ≡ put_record self kind p.now }
+    // What a record of the kind with this payload adds. Roots are read from the bytes, and not kept.
+    #[tactic(auto, unfolding(crate::specs::ByRecord::put_record))]
+    fn add(&mut self, kind: Kind, p: &[u8])
+        requires { Fitting self.old.nodes (code kind) p.now }
+        ensures { self.new ≡ put_record self.old (code kind) p.now }
     {
         let a = keys::byte(p, 0);
         let b = keys::byte(p, 1);
-        let c = keys::byte(p, 2);
-        if kind == limits::COUNT {
-            self.events = a as usize;
-            return self;
+        match kind {
+            Kind::Count => self.events = usize::from(a),
+            Kind::Cause => add_cause(&mut self.needs, a, b),
+            Kind::Conflict => add_conflict(&mut self.conflicts, a, b),
+            Kind::Root => {}
+            Kind::Node => {
+                let n = self.nodes;
+                self.kinds[n] = a;
+                self.left[n] = b;
+                self.right[n] = keys::byte(p, 2);
+                self.nodes = n + 1;
+            }
         }
-        if kind == limits::CAUSE {
-            let needs = with_cause(self.needs, a, b);
-            self.needs = needs;
-            return self;
-        }
-        if kind == limits::CONFLICT {
-            let conflicts = with_conflict(self.conflicts, a, b);
-            self.conflicts = conflicts;
-            return self;
-        }
-        if kind == limits::NODE {
-            let n = self.nodes;
-            self.kinds[n] = a;
-            self.left[n] = b;
-            self.right[n] = c;
-            self.nodes = n + 1;
-            return self;
-        }
-        self
     }
 }
 
-// The tally after a record, with the number of events as it is then.
-fn tally_after(mut t: Tally, f: Frame, events: usize) -> Tally
-    requires { Countable t f }
-    ensures { result ≡ counted t f events }
+// Counts a record, with the number of events as it is then.
+#[tactic(auto, unfolding(crate::specs::ByRecord::counted))]
+fn count(t: &mut Tally, f: Frame, events: usize)
+    requires { Countable t.old f }
+    ensures { t.new ≡ counted t.old f events }
 {
-    let k = (f.kind - 1) as usize;
-    t.seen[k] = t.seen[k] + 1;
-    t.last = f;
+    t.seen[f.kind.place()] += 1;
+    t.last = Some(f);
     t.events = events;
-    t
 }
 
-fn refusal(number: u32) -> Loaded
-    ensures { result ≡ answered (refused number) }
-{
-    Loaded {
-        number,
-        sheet: Sheet::empty(),
-    }
-}
-
-fn no_tally() -> Tally
-    ensures { result ≡ no_tally }
-{
-    Tally {
-        last: Frame {
-            kind: 0,
-            start: 0,
-            len: 0,
-            next: 0,
-        },
-        events: 0,
-        seen: [0; limits::KINDS],
-    }
-}
-
-// The sheet that the bytes say, loaded, or the number of the refusal.
-pub fn load(s: &[u8]) -> Loaded
-    ensures { result ≡ answered (sheet_of s.now) }
+// The sheet that the bytes say, loaded, or the refusal.
+pub fn load(s: &[u8]) -> Result<Sheet, Refusal>
+    ensures { answer result ≡ answered (sheet_of s.now) }
 {
     if limits::SHEET < s.len() {
-        return refusal(10);
+        return Err(Refusal::SheetTooLong);
     }
     let mut sheet = Sheet::empty();
-    let mut t = no_tally();
+    let mut t = Tally {
+        last: None,
+        events: 0,
+        seen: [0; KINDS],
+    };
     let mut at = 0;
     while at < s.len() {
-        let Record::Whole(f) = records::read_at(s, at) else {
-            return refusal(11);
-        };
-        let n = faults::fault(s, t, f);
-        if n != 0 {
-            return refusal(n);
-        }
-        let kind = f.kind;
-        sheet = sheet.with_record(kind, faults::payload(s, f));
-        t = tally_after(t, f, sheet.events);
+        let f = records::read_at(s, at)?;
+        faults::fault(s, &t, f)?;
+        sheet.add(f.kind, faults::payload(s, f));
+        count(&mut t, f, sheet.events);
         at = f.next;
     }
     if sheet.nodes == 0 {
-        return refusal(16);
+        return Err(Refusal::NoNode);
     }
-    Loaded { number: 0, sheet }
+    Ok(sheet)
 }

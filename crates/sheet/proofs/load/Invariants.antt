@@ -1,8 +1,7 @@
 -- `sheet::load` meets its contract. The loop's invariant: what was kept and tallied stands for the lists so far, and what is left of the sheet
 -- decides the rest.
 -- Assumes nothing.
-use Prim.Native.Nat.{◌≤◌, ◌-◌}
-use lib.ListN.{length}
+use Rattle.std.proofs.Common.{◌≤◌, ◌-◌, length}
 use Rattle.sheet.proofs.Loading.{Walking}
 use Rattle.sheet.proofs.load.Given as goal
 
