@@ -1,11 +1,12 @@
 -- `some` and `every` are "there is one" and "for each"; and they depend on nothing else.
 -- Assumes nothing.
-use Prim.Native.Nat.{ℕ, zero, suc, ◌<◌}
+use Prim.Native.Nat.{ℕ, zero, suc, ◌+◌, ◌<◌}
 use native.Mathlib.Nat.{not-suc-le-zero, le_of_suc-le-suc, eq-or-lt_of_le}
 use native.Mathlib.Omega.{arith}
-use mathlib.Core.Path.{◌≡◌, refl, sym, ap₂}
+use mathlib.Core.Path.{◌≡◌, refl, sym, ap, ap₂, ◌∙◌}
 use mathlib.Core.Bool.{Bool, true, false, false≢true, ◌&&◌, ◌||◌}
 use mathlib.Core.Logic.{◌⊎◌, inl, inr, ⊎_elim}
+use Rattle.std.specs.List.{list_all, range_with_len}
 use Rattle.meaning.specs.Sets.{some, every}
 
 pub or_cases : (a b : Bool) → (a || b) ≡ true → (a ≡ true) ⊎ (b ≡ true)
@@ -45,6 +46,10 @@ and_both false b e f = e
 pub and_true : (a : Bool) → (a && true) ≡ a
 and_true true = refl
 and_true false = refl
+
+and_assoc : (a b c : Bool) → ((a && b) && c) ≡ (a && (b && c))
+and_assoc true b c = refl
+and_assoc false b c = refl
 
 pub some_none : (n : ℕ) → some n (λ _. false) ≡ false
 unfolding some
@@ -91,3 +96,20 @@ module _ (p q : ℕ → Bool) where
   unfolding every
   every_ext zero h = refl
   every_ext (suc n) h = ap₂ ◌&&◌ (every_ext n (λ k l. h k (omega arith))) (h n (omega arith))
+
+-- what is first may stand first
+every_front : (n : ℕ) (p : ℕ → Bool) → every (suc n) p ≡ (p 0 && every n (λ k. p (suc k)))
+unfolding every
+every_front zero p = sym (and_true (p 0))
+every_front (suc n) p = rw (every_front n p) (and_assoc (p 0) (every n (λ k. p (suc k))) (p (suc n)))
+
+-- `all` of the library's range
+every_from : (p : ℕ → Bool) (a n : ℕ) → list_all p (range_with_len a n) ≡ every n (λ k. p (a + k))
+unfolding every
+every_from p a zero = refl
+every_from p a (suc n) =
+    ap (λ (b : Bool). p a && b) (every_from p (a + 1) n ∙ every_ext (λ k. p (a + 1 + k)) (λ k. p (a + suc k)) n (λ k l. ap p (omega arith)))
+    ∙ sym (every_front n (λ k. p (a + k)) ∙ ap (λ (i : ℕ). p i && every n (λ k. p (a + suc k))) (omega arith))
+
+pub every_range : (n : ℕ) (p : ℕ → Bool) → list_all p (range_with_len 0 n) ≡ every n p
+every_range n p = every_from p 0 n ∙ every_ext (λ k. p (0 + k)) p n (λ k l. ap p (omega arith))
