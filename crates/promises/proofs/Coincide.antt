@@ -15,7 +15,7 @@ empty_one a b p q = p ∙ sym q
 
 pub is_sound_one : IsSoundOne
 unfolding IsSoundOne
-is_sound_one s a b p q = p ∙ sym q
+is_sound_one κs s a b p q = p ∙ sym q
 
 -- PATHS
 

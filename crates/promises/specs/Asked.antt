@@ -22,10 +22,10 @@ use Rattle.image.proofs.restore.Reads as restore_reads
 
 unfoldable pub SheetsAskNothing : Type 1
 SheetsAskNothing =
-    (κs : Lfts 1) (bytes : Bor (List ℕ)) (s : Sheet) →
+    (κs : Lfts 1) (bytes : Bor (List ℕ)) (s : Bor Sheet) →
     (load_reads.Asked κs (bytes, tt) ≡ Unit {0})
     × (empty_reads.Asked tt tt ≡ Unit {0})
-    × (is_sound_reads.Asked tt (s, tt) ≡ Unit {0})
+    × (is_sound_reads.Asked κs (s, tt) ≡ Unit {0})
 
 unfoldable pub PathsAskNothing : Type 1
 PathsAskNothing =

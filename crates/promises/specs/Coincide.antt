@@ -51,7 +51,7 @@ unfoldable pub EmptyOne : Type 0
 EmptyOne = One (λ (a : Sheet). empty_reads.Learnt tt tt a tt)
 
 unfoldable pub IsSoundOne : Type 0
-IsSoundOne = (s : Sheet) → One (λ (a : Bool). is_sound_reads.Learnt tt (s, tt) a (s, tt))
+IsSoundOne = (κs : Lfts 1) (s : Bor Sheet) → One (λ (a : Bool). is_sound_reads.Learnt κs (s, tt) a (s, tt))
 
 -- PATHS
 

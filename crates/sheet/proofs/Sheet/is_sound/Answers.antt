@@ -1,48 +1,41 @@
--- `sheet::Sheet::is_sound` meets its contract.
+-- `Sheet::is_sound` meets its contract: the library's `all` over a range is `every`.
 -- Assumes nothing.
-use borrow.Author.Tests.{le-leb, lt-leb}
-use Rattle.meaning.specs.Limits.{events_most, nodes_most}
-use Rattle.sheet.specs.Sound.{sound}
+use Rattle.std.proofs.Common.{rules, tests, ◌≡◌, arith, refl}
+use mathlib.Core.Path.{◌∙◌}
+use Rattle.meaning.specs.Sets.{every}
+use Rattle.std.proofs.lemmas.Bool.Decides.{nat_tests}
+use Rattle.std.proofs.lemmas.Iterator.{YieldsList-from_range}
+use Rattle.std.proofs.lemmas.Iterator.Search.{all_from_yields_List}
+use Rattle.laws.proofs.Quantifiers.{every_range}
+use Rattle.sheet.specs.Sound.{sound_event, sound_node, sound}
 use Rattle.sheet.proofs.Sheet.is_sound.Goals as goal
+use Rattle.sheet.proofs.Sheet.is_sound.Goals.{then-contains-2, else-contains-2}
 
-pub returns-then-events-lt1 : goal.returns-then-events-lt1
+pub returns-then-all : goal.returns-then-all
 unfolding sound
-returns-then-events-lt1 c = rw (lt-leb 1 c.args.self.events c.if-events-lt1.true)
+returns-then-all c =
+    let s = c.args.self.now in
+    let nodes : c.all-then-all.result ≡ every s.nodes (sound_node s.kinds s.left s.right s.events) =
+    all_from_yields_List (sound_node s.kinds s.left s.right s.events) _ _ _ c.all-then-all.ensures.ran (YieldsList-from_range 0 s.nodes s.nodes refl (omega arith)) (λ x r q k. search (rules, tests))
+    ∙ every_range s.nodes (sound_node s.kinds s.left s.right s.events) in
+    elim c.if-contains-2.branch [
+      | then-contains-2 w ↦
+          let events : w.all.result ≡ every s.events (sound_event s.needs s.conflicts s.events) =
+          all_from_yields_List (sound_event s.needs s.conflicts s.events) _ _ _ w.all.ensures.ran (YieldsList-from_range 0 s.events s.events refl (omega arith)) (λ x r q k. search (rules, tests))
+          ∙ every_range s.events (sound_event s.needs s.conflicts s.events) in
+          grind (arith, nat_tests)
+      | else-contains-2 w ↦ grind (arith, nat_tests)
+    ]
 
-pub returns-then-events-gt-EVENTS : goal.returns-then-events-gt-EVENTS
+pub returns-else-all : goal.returns-else-all
 unfolding sound
-returns-then-events-gt-EVENTS c = rw (le-leb 1 c.args.self.events c.if-events-lt1.false, lt-leb c.args.self.events events_most c.if-events-gt-EVENTS.true)
-
-pub returns-then-nodes-lt1 : goal.returns-then-nodes-lt1
-unfolding sound
-returns-then-nodes-lt1 c =
-    rw
-    (le-leb 1 c.args.self.events c.if-events-lt1.false, le-leb c.args.self.events events_most c.if-events-gt-EVENTS.false, lt-leb 1 c.args.self.nodes c.if-nodes-lt1.true)
-
-pub returns-then-nodes-gt-NODES : goal.returns-then-nodes-gt-NODES
-unfolding sound
-returns-then-nodes-gt-NODES c =
-    rw (
-      le-leb 1 c.args.self.events c.if-events-lt1.false,
-      le-leb c.args.self.events events_most c.if-events-gt-EVENTS.false,
-      le-leb 1 c.args.self.nodes c.if-nodes-lt1.false,
-      lt-leb c.args.self.nodes nodes_most c.if-nodes-gt-NODES.true,
-    )
-
-pub events_sound-requires : goal.events_sound-requires
-events_sound-requires c = c.if-events-gt-EVENTS.false
-
-pub nodes_sound-requires : goal.nodes_sound-requires
-nodes_sound-requires c = c.if-nodes-gt-NODES.false
-
-pub returns : goal.returns
-unfolding sound
-returns c =
-    rw (
-      le-leb 1 c.args.self.events c.if-events-lt1.false,
-      le-leb c.args.self.events events_most c.if-events-gt-EVENTS.false,
-      le-leb 1 c.args.self.nodes c.if-nodes-lt1.false,
-      le-leb c.args.self.nodes nodes_most c.if-nodes-gt-NODES.false,
-      c.nodes_sound.ensures,
-      c.events_sound.ensures,
-    )
+returns-else-all c =
+    let s = c.args.self.now in
+    elim c.if-contains-2.branch [
+      | then-contains-2 w ↦
+          let events : w.all.result ≡ every s.events (sound_event s.needs s.conflicts s.events) =
+          all_from_yields_List (sound_event s.needs s.conflicts s.events) _ _ _ w.all.ensures.ran (YieldsList-from_range 0 s.events s.events refl (omega arith)) (λ x r q k. search (rules, tests))
+          ∙ every_range s.events (sound_event s.needs s.conflicts s.events) in
+          grind (arith, nat_tests)
+      | else-contains-2 w ↦ grind (arith, nat_tests)
+    ]
