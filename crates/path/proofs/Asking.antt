@@ -2,7 +2,7 @@
 -- Assumes nothing.
 use Prim.Native.Nat.{ℕ, ◌+◌, ◌-◌, ◌≤◌, ◌<◌}
 use mathlib.Core.Path.{◌≡◌, refl, sym, ap, ap₂, ◌∙◌, subst}
-use mathlib.Core.Bool.{Bool, true, false, cond}
+use mathlib.Core.Bool.{true, false}
 use mathlib.Core.List.{List, []}
 use native.Mathlib.Omega.{arith}
 use lib.ListN.{length, take, drop, length-drop}
@@ -16,23 +16,25 @@ use Rattle.meaning.specs.Sheet.{known_access, sheet_of}
 use Rattle.meaning.specs.Sheet
 use Rattle.meaning.specs.Question.{found, path_fault, path_in, asked_of, question}
 use Rattle.meaning.specs.Question
-use Rattle.sheet.specs.declared.Loaded.{Loaded}
+use Rattle.std.specs.Option.{ok_or}
+use Rattle.std.specs.Prelude.{Option, Some, None, Result, Ok, Err}
+use Rattle.refusals.specs.declared.Refusal.{Refusal}
+use Rattle.refusals.specs.declared.Refusal.TheVariants.{PathLength, MalformedPath, NoRoot, UnknownAccess}
+use Rattle.refusals.specs.Numbers.{number}
+use Rattle.refusals.proofs.Alike.{not_zero}
+use Rattle.sheet.specs.declared.Sheet as Stored
 use Rattle.sheet.specs.Loads.{answered}
 use Rattle.path.specs.declared.Span.{Span}
-use Rattle.path.specs.declared.Event.{Event}
-use Rattle.path.specs.declared.Found.{Found}
-use Rattle.path.specs.declared.Found.TheVariants.{Under, Refused}
-use Rattle.path.specs.Places.{Winner, standing, missing, winner_in, place_for, root_place}
-use Rattle.path.specs.Search.{Accepted, Within, Best, spanned, kept, answer, place_of, Answers}
+use Rattle.path.specs.Places.{winner_in, place_for, root_place}
+use Rattle.path.specs.Search.{Accepted, Within, BestWithin, Best, spanned, kept, told, place_of, Answers}
 use Rattle.path.specs.Questions.{PartAt, event_of, root_of, rest_of}
-use Rattle.laws.proofs.Accepted.{sheet_nonzero}
 use Rattle.path.proofs.Places.{match, winner_longest}
 use Rattle.path.proofs.Covering.{here_length}
 
 -- a refusal has the number that the question has, and stands at the front
-refuses : (bytes : List ℕ) (access : ℕ) (path : List ℕ) (n : ℕ) → question bytes access path ≡ refused n → Answers bytes access path (Refused n)
-unfolding answer place_of place_for root_place
-refuses bytes access path n q =
+refuses : (bytes : List ℕ) (access : ℕ) (path : List ℕ) (r : Refusal) → question bytes access path ≡ refused (number r) → Answers bytes access path (Err r)
+unfolding told place_of place_for root_place
+refuses bytes access path r q =
     record {
       is = sym q;
       place_is = sym (ap (λ (x : Answer Question.Found). place_for x (winner_in bytes access path)) q);
@@ -42,22 +44,22 @@ refuses bytes access path n q =
 -- THE SHEET FIRST
 
 pub sheet_refused :
-    {bytes : List ℕ} {access : ℕ} {path : List ℕ} (l : Loaded) → l ≡ answered (sheet_of bytes)
-    → (l.number ≡ 0 → ⊥) → Answers bytes access path (Refused l.number)
+    {bytes : List ℕ} {access : ℕ} {path : List ℕ} (r : Refusal) → refused (number r) ≡ answered (sheet_of bytes)
+    → Answers bytes access path (Err r)
 unfolding question asked_of answered
-sheet_refused {bytes} {access} {path} l e n = refuses bytes access path l.number (sym (go (sheet_of bytes) e))
+sheet_refused {bytes} {access} {path} r e = refuses bytes access path r (go (sheet_of bytes) e)
   where
-    go : (a : Answer Sheet.Sheet) → l ≡ answered a → refused l.number ≡ asked_of a access path
-    go (good s) q = absurd (n (ap (λ (x : Loaded). x.number) q))
-    go (refused k) q = ap (λ (x : Loaded). refused x.number) q
+    go : (a : Answer Sheet.Sheet) → refused (number r) ≡ answered a → asked_of a access path ≡ refused (number r)
+    go (good s) q = absurd (let z : ◌≡◌ {A = ℕ} 0 1 = cc in omega arith)
+    go (refused k) q = cc
 
-pub sheet_good : {bytes : List ℕ} (l : Loaded) → l ≡ answered (sheet_of bytes) → l.number ≡ 0 → Accepted bytes
+pub sheet_good : {bytes : List ℕ} (x : Stored.Sheet) → good x ≡ answered (sheet_of bytes) → Accepted bytes
 unfolding answered
-sheet_good {bytes} l e z = go (sheet_of bytes) refl
+sheet_good {bytes} x e = go (sheet_of bytes) refl e
   where
-    go : (a : Answer Sheet.Sheet) → sheet_of bytes ≡ a → Accepted bytes
-    go (good s) q = record { sheet = s; sheet_is = q }
-    go (refused k) q = absurd (sheet_nonzero bytes k q (sym (ap (λ (x : Loaded). x.number) (e ∙ ap answered q)) ∙ z))
+    go : (a : Answer Sheet.Sheet) → sheet_of bytes ≡ a → good x ≡ answered a → Accepted bytes
+    go (good s) q e = record { sheet = s; sheet_is = q }
+    go (refused k) q e = absurd (let z : ◌≡◌ {A = ℕ} 0 1 = cc in omega arith)
 
 -- THEN THE PATH
 
@@ -66,30 +68,30 @@ unfolding question asked_of
 in_sheet ok access path = rw ok.sheet_is
 
 module _ {bytes : List ℕ} {access : ℕ} {path : List ℕ} (ok : Accepted bytes) where
-  faulty : (n : ℕ) → path_fault access path ≡ n → (n ≡ 0 → ⊥) → Answers bytes access path (Refused n)
+  faulty : (r : Refusal) → path_fault access path ≡ number r → Answers bytes access path (Err r)
   unfolding path_in
-  faulty n q ne = refuses bytes access path n (in_sheet ok access path ∙ rw (q, ne_eqb n 0 ne))
+  faulty r q = refuses bytes access path r (in_sheet ok access path ∙ rw (q, ne_eqb (number r) 0 (not_zero r)))
 
-  pub asks_access : 1 < access → Answers bytes access path (Refused 34)
+  pub asks_access : 1 < access → Answers bytes access path (Err UnknownAccess)
   unfolding path_fault known_access
-  asks_access h = faulty 34 (rw (lt-leb access 1 h)) (λ z. omega arith)
+  asks_access h = faulty UnknownAccess (rw (lt-leb access 1 h))
 
   module _ (h : access ≤ 1) where
-    pub asks_empty : length path ≡ 0 → Answers bytes access path (Refused 31)
+    pub asks_empty : length path ≡ 0 → Answers bytes access path (Err PathLength)
     unfolding path_fault known_access
-    asks_empty q = faulty 31 (rw (le-leb access 1 h, eq-eqb (length path) 0 q)) (λ z. omega arith)
+    asks_empty q = faulty PathLength (rw (le-leb access 1 h, eq-eqb (length path) 0 q))
 
     module _ (n : length path ≡ 0 → ⊥) where
-      pub asks_long : path_most < length path → Answers bytes access path (Refused 31)
+      pub asks_long : path_most < length path → Answers bytes access path (Err PathLength)
       unfolding path_fault known_access
-      asks_long q = faulty 31 (rw (le-leb access 1 h, ne_eqb (length path) 0 n, lt-ltb path_most (length path) q)) (λ z. omega arith)
+      asks_long q = faulty PathLength (rw (le-leb access 1 h, ne_eqb (length path) 0 n, lt-ltb path_most (length path) q))
 
       module _ (l : length path ≤ path_most) where
-        pub asks_form : well_formed path ≡ false → Answers bytes access path (Refused 32)
+        pub asks_form : well_formed path ≡ false → Answers bytes access path (Err MalformedPath)
         unfolding path_fault known_access
-        asks_form q = faulty 32 (rw (le-leb access 1 h, ne_eqb (length path) 0 n, le-ltb path_most (length path) l, q)) (λ z. omega arith)
+        asks_form q = faulty MalformedPath (rw (le-leb access 1 h, ne_eqb (length path) 0 n, le-ltb path_most (length path) l, q))
 
-        module _ (w : well_formed path ≡ true) (b : Span) (best : Best bytes access path b) where
+        module _ (w : well_formed path ≡ true) (b : Option Span) (best : Best bytes access path b) where
           -- the root that the search found decides
           found_is : question bytes access path ≡ found path (match (kept bytes access b))
           unfolding path_fault known_access path_in
@@ -98,73 +100,80 @@ module _ {bytes : List ℕ} {access : ℕ} {path : List ℕ} (ok : Accepted byte
               ∙ rw (le-leb access 1 h, ne_eqb (length path) 0 n, le-ltb path_most (length path) l, w)
               (ap (found path) (sym (ap match best.winner_is ∙ winner_longest bytes access path ok.sheet ok.sheet_is)))
 
-          pub asks_nowhere : b.len ≡ 0 → Answers bytes access path (Refused 33)
-          unfolding kept match found
-          asks_nowhere q = refuses bytes access path 33 (found_is ∙ rw q)
+          pub asks_nowhere : b ≡ None → Answers bytes access path (Err NoRoot)
+          unfolding match found
+          asks_nowhere q = refuses bytes access path NoRoot (found_is ∙ rw q)
 
-          pub asks_under : (b.len ≡ 0 → ⊥) → Answers bytes access path (Under b)
-          unfolding answer kept spanned match found rest_after place_of place_for root_place
-          asks_under q =
-              let stands : kept bytes access b ≡ standing (spanned bytes access b) =
-              ap (λ (t : Bool). cond t missing (standing (spanned bytes access b))) (ne_eqb b.len 0 q) in
-              let is : question bytes access path ≡ answer bytes path (Under b) =
-              found_is ∙ ap (λ (x : Winner). found path (match x)) stands
-              ∙ ap (λ (k : ℕ). good (record { event = b.event; root = take b.len (drop b.at bytes); rest = drop k path }))
-              (here_length bytes path b.at b.len best.within.0) in
+          pub asks_under : (x : Span) → b ≡ Some x → Answers bytes access path (Ok x)
+          unfolding told spanned match found rest_after place_of place_for root_place
+          asks_under x q =
+              let inside : Within bytes path x = subst (BestWithin bytes path) q best.within in
+              let is : question bytes access path ≡ told bytes path (Ok x) =
+              found_is ∙ ap (λ (y : Option Span). found path (match (kept bytes access y))) q
+              ∙ ap (λ (k : ℕ). good (record { event = x.event; root = take x.len (drop x.at bytes); rest = drop k path }))
+              (here_length bytes path x.at x.len inside.0) in
               record {
                 is = sym is;
-                place_is = sym (ap₂ place_for is (sym best.winner_is ∙ stands));
-                spans = λ c y. subst (λ (x : Span). Within bytes path x) (let z : b ≡ c = cc in z) best.within;
+                place_is = sym (ap₂ place_for is (sym best.winner_is ∙ ap (kept bytes access) q));
+                spans = λ c y. subst (λ (z : Span). Within bytes path z) (let z : x ≡ c = cc in z) inside;
               }
+
+          -- what the search found, or 33
+          pub asks_found : (f : Result Span Refusal) → f ≡ ok_or b NoRoot → Answers bytes access path f
+          asks_found f e = subst (Answers bytes access path) (sym e) (go b refl)
+            where
+              go : (x : Option Span) → b ≡ x → Answers bytes access path (ok_or x NoRoot)
+              go None q = asks_nowhere q
+              go (Some x) q = asks_under x q
 
 -- WHAT IS SAID OF WHAT WAS FOUND
 
-module _ {bytes : List ℕ} {access : ℕ} {path : List ℕ} (f : Found) (a : Answers bytes access path f) where
-  as_found : (k : Found) → f ≡ k → answer bytes path k ≡ question bytes access path
-  as_found k e = ap (answer bytes path) (sym e) ∙ a.is
+module _ {bytes : List ℕ} {access : ℕ} {path : List ℕ} (f : Result Span Refusal) (a : Answers bytes access path f) where
+  as_found : (k : Result Span Refusal) → f ≡ k → told bytes path k ≡ question bytes access path
+  as_found k e = ap (told bytes path) (sym e) ∙ a.is
 
-  placed : (k : Found) → f ≡ k → place_of k ≡ root_place bytes access path
+  placed : (k : Result Span Refusal) → f ≡ k → place_of k ≡ root_place bytes access path
   placed k e = ap place_of (sym e) ∙ a.place_is
 
-  pub event_under : (b : Span) → f ≡ Under b → ◌≡◌ {A = Event} (record { number = 0; event = b.event }) (event_of (question bytes access path))
-  unfolding answer event_of
-  event_under b e = ap event_of (as_found (Under b) e)
+  pub event_under : (b : Span) → f ≡ Ok b → good b.event ≡ event_of (question bytes access path)
+  unfolding told event_of
+  event_under b e = ap event_of (as_found (Ok b) e)
 
-  pub event_refused : (n : ℕ) → f ≡ Refused n → ◌≡◌ {A = Event} (record { number = n; event = 0 }) (event_of (question bytes access path))
-  unfolding answer event_of
-  event_refused n e = ap event_of (as_found (Refused n) e)
+  pub event_refused : (r : Refusal) → f ≡ Err r → refused (number r) ≡ event_of (question bytes access path)
+  unfolding told event_of
+  event_refused r e = ap event_of (as_found (Err r) e)
 
-  pub root_under : (b : Span) → f ≡ Under b → take (b.at + b.len - b.at) (drop b.at bytes) ≡ root_of (question bytes access path)
-  unfolding answer root_of
+  pub root_under : (b : Span) → f ≡ Ok b → take (b.at + b.len - b.at) (drop b.at bytes) ≡ root_of (question bytes access path)
+  unfolding told root_of
   root_under b e =
       let w : b.at + b.len - b.at ≡ b.len = omega arith in
-      ap (λ (n : ℕ). take n (drop b.at bytes)) w ∙ ap root_of (as_found (Under b) e)
+      ap (λ (n : ℕ). take n (drop b.at bytes)) w ∙ ap root_of (as_found (Ok b) e)
 
-  pub root_length : (b : Span) → f ≡ Under b → b.len ≡ length (root_of (question bytes access path))
-  unfolding answer root_of
+  pub root_length : (b : Span) → f ≡ Ok b → b.len ≡ length (root_of (question bytes access path))
+  unfolding told root_of
   root_length b e =
       let w = (a.spans b e).0 in
-      sym (length-take-le b.len (drop b.at bytes) (rw (length-drop b.at bytes) (omega arith))) ∙ ap length (ap root_of (as_found (Under b) e))
+      sym (length-take-le b.len (drop b.at bytes) (rw (length-drop b.at bytes) (omega arith))) ∙ ap length (ap root_of (as_found (Ok b) e))
 
-  pub root_refused : (n : ℕ) → f ≡ Refused n → [] ≡ root_of (question bytes access path)
-  unfolding answer root_of
-  root_refused n e = ap root_of (as_found (Refused n) e)
+  pub root_refused : (r : Refusal) → f ≡ Err r → [] ≡ root_of (question bytes access path)
+  unfolding told root_of
+  root_refused r e = ap root_of (as_found (Err r) e)
 
-  pub place_under : (b : Span) → f ≡ Under b → b.at ≡ root_place bytes access path
+  pub place_under : (b : Span) → f ≡ Ok b → b.at ≡ root_place bytes access path
   unfolding place_of
-  place_under b e = placed (Under b) e
+  place_under b e = placed (Ok b) e
 
-  pub place_refused : (n : ℕ) → f ≡ Refused n → 0 ≡ root_place bytes access path
+  pub place_refused : (r : Refusal) → f ≡ Err r → 0 ≡ root_place bytes access path
   unfolding place_of
-  place_refused n e = placed (Refused n) e
+  place_refused r e = placed (Err r) e
 
-  pub rest_under : (b : Span) → f ≡ Under b → drop b.len path ≡ rest_of (question bytes access path)
-  unfolding answer rest_of
-  rest_under b e = ap rest_of (as_found (Under b) e)
+  pub rest_under : (b : Span) → f ≡ Ok b → drop b.len path ≡ rest_of (question bytes access path)
+  unfolding told rest_of
+  rest_under b e = ap rest_of (as_found (Ok b) e)
 
-  pub rest_refused : (n : ℕ) → f ≡ Refused n → [] ≡ rest_of (question bytes access path)
-  unfolding answer rest_of
-  rest_refused n e = ap rest_of (as_found (Refused n) e)
+  pub rest_refused : (r : Refusal) → f ≡ Err r → [] ≡ rest_of (question bytes access path)
+  unfolding told rest_of
+  rest_refused r e = ap rest_of (as_found (Err r) e)
 
 -- WHERE THE PARTS LIE
 

@@ -19,26 +19,27 @@ use Rattle.meaning.specs.Sheet
 use Rattle.laws.proofs.Quantifiers.{and_left, and_right, and_both}
 use Rattle.laws.proofs.Accepted.{walked, no_fault, accepted_walk}
 use Rattle.records.specs.declared.Frame.{Frame}
-use Rattle.records.specs.declared.Record.TheVariants.{Whole}
-use Rattle.records.specs.Frames.{frame_at, framed_at, answer}
-use Rattle.records.proofs.Framing.{whole_says, whole_told}
+use Rattle.std.specs.Prelude.{Option, Some, None}
+use Rattle.records.specs.Codes.{code}
+use Rattle.records.specs.Frames.{frame_at, framed_at}
+use Rattle.records.proofs.Framing.{whole_says}
 use Rattle.faults.specs.Tallies.{payload_in}
-use Rattle.faults.proofs.Framed.{frame_inside, frame_next, frame_payload, frame_behind, frame_root}
+use Rattle.faults.proofs.Framed.{frame_kind, frame_inside, frame_next, frame_payload, frame_behind, frame_root}
 use Rattle.path.specs.declared.Span.{Span}
-use Rattle.path.specs.Places.{Placed, Winner, standing, missing, root_at, roots_from, longer_at, better_at, longest_at, winner_in}
-use Rattle.path.specs.Search.{RootFrame, worth_it, spanned, kept, Within, Best, Accepted}
+use Rattle.path.specs.Places.{Placed, Winner, standing, root_at, roots_from, longer_at, better_at, longest_at, winner_in}
+use Rattle.path.specs.Search.{RootFrame, worth_it, size_of, spanned, kept, BestWithin, Best, Accepted}
 use Rattle.path.proofs.Covering.{drop_take, here_length, covers_long, covers_differs, covers_agrees}
 
-pub record Searching (bytes : List ℕ) (access : ℕ) (path : List ℕ) (best : Span) (at : ℕ) : Type 0 where
+pub record Searching (bytes : List ℕ) (access : ℕ) (path : List ℕ) (best : Option Span) (at : ℕ) : Type 0 where
   pub reading : Reading
   pub steps : ℕ
   pub final : Sheet.Sheet
   pub walks : walk steps reading (drop at bytes) ≡ good final
   pub searches : longest_at access path (kept bytes access best) (roots_from steps at (drop at bytes)) ≡ winner_in bytes access path
-  pub within : Within bytes path best
+  pub within : BestWithin bytes path best
 
-pub begins : (bytes : List ℕ) (access : ℕ) (path : List ℕ) → Accepted bytes → Searching bytes access path (record { at = 0; len = 0; event = 0 }) 0
-unfolding kept winner_in
+pub begins : (bytes : List ℕ) (access : ℕ) (path : List ℕ) → Accepted bytes → Searching bytes access path None 0
+unfolding winner_in
 begins bytes access path ok =
     record {
       reading = nothing_read;
@@ -46,7 +47,7 @@ begins bytes access path ok =
       final = ok.sheet;
       walks = (accepted_walk bytes ok.sheet ok.sheet_is).0;
       searches = refl;
-      within = (omega arith, omega arith);
+      within = tt;
     }
 
 -- no byte is left, and so no root
@@ -61,7 +62,7 @@ record Further (q : List ℕ) (at n : ℕ) (g : Reading) (final : Sheet.Sheet) :
   pub walks : walk steps (after_record g (kind_of q) (payload q)) (behind q) ≡ good final
   pub roots : roots_from n at q ≡ root_at at (kind_of q) (payload q) ++ roots_from steps (at + 4 + get_or q 3 0) (behind q)
 
-module _ {bytes : List ℕ} {access : ℕ} {path : List ℕ} {best : Span} {at : ℕ} (w : Searching bytes access path best at) where
+module _ {bytes : List ℕ} {access : ℕ} {path : List ℕ} {best : Option Span} {at : ℕ} (w : Searching bytes access path best at) where
   -- the record at this place has no fault, and the walk goes on behind it
   step : at < length bytes → (framed (drop at bytes) ≡ true) × Further (drop at bytes) at w.steps w.reading w.final
   unfolding walk roots_from
@@ -87,18 +88,18 @@ module _ {bytes : List ℕ} {access : ℕ} {path : List ℕ} {best : Span} {at :
 
 -- A TURN: the record at this place is whole
 
-pub record Turn (bytes : List ℕ) (access : ℕ) (path : List ℕ) (best : Span) (at : ℕ) (f : Frame) : Type 0 where
+pub record Turn (bytes : List ℕ) (access : ℕ) (path : List ℕ) (best : Option Span) (at : ℕ) (f : Frame) : Type 0 where
   pub search : Searching bytes access path best at
   pub more : at < length bytes
-  pub says : framed_at bytes at ≡ good f
+  pub says : good f ≡ framed_at bytes at
 
 -- the record that was read at this place makes a turn
 pub turns :
-    {bytes : List ℕ} {access : ℕ} {path : List ℕ} {best : Span} {at : ℕ} (f : Frame)
-    → Searching bytes access path best at → at < length bytes → answer (Whole f) ≡ framed_at bytes at → Turn bytes access path best at f
-turns f w l e = record { search = w; more = l; says = whole_told (Whole f) f e refl }
+    {bytes : List ℕ} {access : ℕ} {path : List ℕ} {best : Option Span} {at : ℕ} (f : Frame)
+    → Searching bytes access path best at → at < length bytes → good f ≡ framed_at bytes at → Turn bytes access path best at f
+turns f w l e = record { search = w; more = l; says = e }
 
-module _ {bytes : List ℕ} {access : ℕ} {path : List ℕ} {best : Span} {at : ℕ} {f : Frame} (t : Turn bytes access path best at f) where
+module _ {bytes : List ℕ} {access : ℕ} {path : List ℕ} {best : Option Span} {at : ℕ} {f : Frame} (t : Turn bytes access path best at f) where
   abbrev w : Searching bytes access path best at
   w = t.search
 
@@ -125,19 +126,18 @@ module _ {bytes : List ℕ} {access : ℕ} {path : List ℕ} {best : Span} {at :
   unfolding frame_at
   f_places = (ap (λ (k : Frame). k.start) is, ap (λ (k : Frame). k.next) is)
 
-  kind_is : kind_of r ≡ f.kind
-  unfolding frame_at
-  kind_is = ap (λ (k : Frame). k.kind) is
+  kind_is : kind_of r ≡ code f.kind
+  kind_is = sym (frame_kind bytes at whole) ∙ ap (λ (k : Frame). code k.kind) is
 
   payload_is : payload r ≡ payload_in bytes f
   payload_is = sym (frame_payload bytes at whole) ∙ ap (payload_in bytes) is
 
   -- the root that the record is, with its place, or none
   abbrev here : List Placed
-  here = root_at at f.kind (payload_in bytes f)
+  here = root_at at (code f.kind) (payload_in bytes f)
 
   -- with the best after this record
-  on : (b : Span) → Within bytes path b
+  on : (b : Option Span) → BestWithin bytes path b
       → ((ps : List Placed) → longest_at access path so_far (here ++ ps) ≡ longest_at access path (kept bytes access b) ps)
       → Searching bytes access path b f.next
   on b i e =
@@ -171,10 +171,10 @@ module _ {bytes : List ℕ} {access : ℕ} {path : List ℕ} {best : Span} {at :
   abbrev this : Placed
   this = record { root = record { access = get_or bytes f.start 0; event = get_or bytes (f.start + 1) 0; path = take m (drop a bytes) }; place = a }
 
-  m_inside : f.kind ≡ of_root → a + m ≤ length bytes
+  m_inside : (code f.kind) ≡ of_root → a + m ≤ length bytes
   m_inside e = let l = f_root.1 e in let h = f_root.0 in omega arith
 
-  root_here : f.kind ≡ of_root → root_in (payload_in bytes f) ≡ this.root
+  root_here : (code f.kind) ≡ of_root → root_in (payload_in bytes f) ≡ this.root
   unfolding payload_in root_in
   root_here e =
       let four = f_root.1 e in
@@ -190,24 +190,24 @@ module _ {bytes : List ℕ} {access : ℕ} {path : List ℕ} {best : Span} {at :
       λ j. record { access = a_is j; event = b_is j; path = path_is j }
 
   -- and where its path stands
-  root_this : f.kind ≡ of_root → here ≡ this ∷ []
+  root_this : (code f.kind) ≡ of_root → here ≡ this ∷ []
   unfolding root_at
   root_this e =
       let place : at + 4 + 2 ≡ a = let q = f_places.0 in omega arith in
-      rw (eq-eqb f.kind of_root e) (ap₂ (λ (x : Sheet.Root) (n : ℕ). record { root = x; place = n } ∷ []) (root_here e) place)
+      rw (eq-eqb (code f.kind) of_root e) (ap₂ (λ (x : Sheet.Root) (n : ℕ). record { root = x; place = n } ∷ []) (root_here e) place)
 
-  passes_over : (f.kind ≡ of_root → ⊥) → Searching bytes access path best f.next
+  passes_over : ((code f.kind) ≡ of_root → ⊥) → Searching bytes access path best f.next
   unfolding root_at
-  passes_over n = on best w.within (λ ps. rw (ne_eqb f.kind of_root n))
+  passes_over n = on best w.within (λ ps. rw (ne_eqb (code f.kind) of_root n))
 
   -- a root is judged, and b is the best after it
-  judged : f.kind ≡ of_root → (b : Span) → Within bytes path b → better_at access path so_far this ≡ kept bytes access b → Searching bytes access path b f.next
+  judged : (code f.kind) ≡ of_root → (b : Option Span) → BestWithin bytes path b → better_at access path so_far this ≡ kept bytes access b → Searching bytes access path b f.next
   unfolding longest_at
   judged e b i h =
       on b i
       (λ ps. ap (λ (qs : List Placed). longest_at access path so_far (qs ++ ps)) (root_this e) ∙ ap (λ (x : Winner). longest_at access path x ps) h)
 
-  keeps : f.kind ≡ of_root → better_at access path so_far this ≡ so_far → Searching bytes access path best f.next
+  keeps : (code f.kind) ≡ of_root → better_at access path so_far this ≡ so_far → Searching bytes access path best f.next
   keeps e h = judged e best w.within h
 
   abbrev right_access : Bool
@@ -216,7 +216,7 @@ module _ {bytes : List ℕ} {access : ℕ} {path : List ℕ} {best : Span} {at :
   abbrev covering : Bool
   covering = covers (take m (drop a bytes)) path
 
-  uncovered : f.kind ≡ of_root → covering ≡ false → Searching bytes access path best f.next
+  uncovered : (code f.kind) ≡ of_root → covering ≡ false → Searching bytes access path best f.next
   unfolding better_at
   uncovered e c = keeps e (ap (λ (t : Bool). cond t (longer_at so_far this) so_far) (ap (λ (t : Bool). right_access && t) c ∙ and_none right_access))
     where
@@ -224,71 +224,64 @@ module _ {bytes : List ℕ} {access : ℕ} {path : List ℕ} {best : Span} {at :
       and_none true = refl
       and_none false = refl
 
-  -- the best so far, where there is one, has this many bytes, and the record's path that many
-  best_length : length (spanned bytes access best).root.path ≡ best.len
-  unfolding spanned
-  best_length = here_length bytes path best.at best.len w.within.0
-
-  this_length : f.kind ≡ of_root → length this.root.path ≡ m
+  -- the record's path has this many bytes
+  this_length : (code f.kind) ≡ of_root → length this.root.path ≡ m
   this_length e = here_length bytes path a m (m_inside e)
 
   -- EACH WAY OUT
 
   -- a shorter root than the best changes nothing
-  shorter : f.kind ≡ of_root → m ≤ best.len → longer_at so_far this ≡ so_far
-  unfolding kept longer_at
-  shorter e h = go (eqb best.len 0) refl
+  shorter : (code f.kind) ≡ of_root → m ≤ size_of best → longer_at so_far this ≡ so_far
+  unfolding longer_at spanned
+  shorter e h = go best w.within h
     where
-      old : Placed
-      old = spanned bytes access best
+      go : (x : Option Span) → BestWithin bytes path x → m ≤ size_of x → longer_at (kept bytes access x) this ≡ kept bytes access x
+      go None i l = absurd (let four = f_root.1 e in omega arith)
+      go (Some b) i l =
+          ap (λ (t : Bool). cond t (standing this) (standing (spanned bytes access b)))
+          (le-ltb (length (spanned bytes access b).root.path) (length this.root.path) (rw (here_length bytes path b.at b.len i.0, this_length e) l))
 
-      go : (t : Bool) → eqb best.len 0 ≡ t → longer_at (cond t missing (standing old)) this ≡ cond t missing (standing old)
-      go true z = absurd (let q = eqb-true best.len 0 z in let four = f_root.1 e in omega arith)
-      go false z =
-          ap (λ (t : Bool). cond t (standing this) (standing old))
-          (le-ltb (length old.root.path) (length this.root.path) (rw (best_length, this_length e) h))
-
-  pub not_worth : worth_it bytes f access (length path) best.len ≡ false → Searching bytes access path best f.next
+  pub not_worth : worth_it bytes f access (length path) (size_of best) ≡ false → Searching bytes access path best f.next
   unfolding worth_it better_at
-  not_worth z = kind (eqb f.kind of_root) refl z
+  not_worth z = kind (eqb (code f.kind) of_root) refl z
     where
-      size : f.kind ≡ of_root → (t : Bool) → leb m (length path) ≡ t → t ≡ false → Searching bytes access path best f.next
+      size : (code f.kind) ≡ of_root → (t : Bool) → leb m (length path) ≡ t → t ≡ false → Searching bytes access path best f.next
       size e true x y = absurd (false≢true (sym y))
       size e false x y = uncovered e (covers_long bytes path a m (m_inside e) (leb-false m (length path) x))
 
-      longer_one : f.kind ≡ of_root → (t : Bool) → ltb best.len m ≡ t → (t && leb m (length path)) ≡ false → Searching bytes access path best f.next
+      longer_one : (code f.kind) ≡ of_root → (t : Bool) → ltb (size_of best) m ≡ t → (t && leb m (length path)) ≡ false → Searching bytes access path best f.next
       longer_one e true x y = size e (leb m (length path)) refl y
-      longer_one e false x y = keeps e (either (right_access && covering) (shorter e (ltb-false best.len m x)))
+      longer_one e false x y = keeps e (either (right_access && covering) (shorter e (ltb-false (size_of best) m x)))
         where
           either : (t : Bool) {x y : Winner} → x ≡ y → cond t x y ≡ y
           either true q = q
           either false q = refl
 
       same_access :
-          f.kind ≡ of_root → (t : Bool) → right_access ≡ t → (t && (ltb best.len m && leb m (length path))) ≡ false
+          (code f.kind) ≡ of_root → (t : Bool) → right_access ≡ t → (t && (ltb (size_of best) m && leb m (length path))) ≡ false
           → Searching bytes access path best f.next
-      same_access e true x y = longer_one e (ltb best.len m) refl y
+      same_access e true x y = longer_one e (ltb (size_of best) m) refl y
       same_access e false x y = keeps e (ap (λ (t : Bool). cond (t && covering) (longer_at so_far this) so_far) x)
 
       kind :
-          (t : Bool) → eqb f.kind of_root ≡ t → (t && (right_access && (ltb best.len m && leb m (length path)))) ≡ false
+          (t : Bool) → eqb (code f.kind) of_root ≡ t → (t && (right_access && (ltb (size_of best) m && leb m (length path)))) ≡ false
           → Searching bytes access path best f.next
-      kind true x y = same_access (eqb-true f.kind of_root x) right_access refl y
-      kind false x y = passes_over (eqb-false f.kind of_root x)
+      kind true x y = same_access (eqb-true (code f.kind) of_root x) right_access refl y
+      kind false x y = passes_over (eqb-false (code f.kind) of_root x)
 
-  module _ (z : worth_it bytes f access (length path) best.len ≡ true) where
-    worth_says : (f.kind ≡ of_root) × (get_or bytes f.start 0 ≡ access) × (best.len < m) × (m ≤ length path)
+  module _ (z : worth_it bytes f access (length path) (size_of best) ≡ true) where
+    worth_says : ((code f.kind) ≡ of_root) × (get_or bytes f.start 0 ≡ access) × ((size_of best) < m) × (m ≤ length path)
     unfolding worth_it
     worth_says =
-        let x = and_right (eqb f.kind of_root) (right_access && (ltb best.len m && leb m (length path))) z in
-        let y = and_right right_access (ltb best.len m && leb m (length path)) x in (
-          eqb-true f.kind of_root (and_left (eqb f.kind of_root) _ z),
+        let x = and_right (eqb (code f.kind) of_root) (right_access && (ltb (size_of best) m && leb m (length path))) z in
+        let y = and_right right_access (ltb (size_of best) m && leb m (length path)) x in (
+          eqb-true (code f.kind) of_root (and_left (eqb (code f.kind) of_root) _ z),
           eqb-true (get_or bytes f.start 0) access (and_left right_access _ x),
-          ltb-true best.len m (and_left (ltb best.len m) (leb m (length path)) y),
-          leb-true m (length path) (and_right (ltb best.len m) (leb m (length path)) y),
+          ltb-true (size_of best) m (and_left (ltb (size_of best) m) (leb m (length path)) y),
+          leb-true m (length path) (and_right (ltb (size_of best) m) (leb m (length path)) y),
         )
 
-    is_root : f.kind ≡ of_root
+    is_root : (code f.kind) ≡ of_root
     is_root = worth_says.0
 
     -- the root and its path lie inside the sheet, and the path is no longer than the one that is asked for
@@ -307,28 +300,23 @@ module _ {bytes : List ℕ} {access : ℕ} {path : List ℕ} {best : Span} {at :
 
       -- a longer root than the best takes its place
       replaced : longer_at so_far this ≡ standing this
-      unfolding kept longer_at
-      replaced = go (eqb best.len 0) refl
+      unfolding longer_at spanned
+      replaced = go best w.within worth_says.2
         where
-          old : Placed
-          old = spanned bytes access best
+          go : (x : Option Span) → BestWithin bytes path x → size_of x < m → longer_at (kept bytes access x) this ≡ standing this
+          go None i l = refl
+          go (Some b) i l =
+              ap (λ (t : Bool). cond t (standing this) (standing (spanned bytes access b)))
+              (lt-ltb (length (spanned bytes access b).root.path) (length this.root.path) (rw (here_length bytes path b.at b.len i.0, this_length is_root) l))
 
-          go : (t : Bool) → eqb best.len 0 ≡ t → longer_at (cond t missing (standing old)) this ≡ standing this
-          go true z = refl
-          go false z =
-              ap (λ (t : Bool). cond t (standing this) (standing old))
-              (lt-ltb (length old.root.path) (length this.root.path) (rw (best_length, this_length is_root) worth_says.2))
+      new_is : standing this ≡ kept bytes access (Some new)
+      unfolding spanned
+      new_is = ap (λ (n : ℕ). standing (record { root = record { access = n; event = this.root.event; path = this.root.path }; place = a })) worth_says.1
 
-      new_is : standing this ≡ kept bytes access new
-      unfolding kept spanned
-      new_is =
-          ap (λ (n : ℕ). standing (record { root = record { access = n; event = this.root.event; path = this.root.path }; place = a })) worth_says.1
-          ∙ sym (ap (λ (t : Bool). cond t missing (standing (spanned bytes access new))) (ne_eqb m 0 (λ q. let h = worth_says.2 in omega arith)))
-
-      pub wins : edge (drop m path) ≡ true → Searching bytes access path new f.next
+      pub wins : edge (drop m path) ≡ true → Searching bytes access path (Some new) f.next
       unfolding better_at
       wins e =
-          judged is_root new (m_inside is_root, fits.2)
+          judged is_root (Some new) (m_inside is_root, fits.2)
           (ap (λ (t : Bool). cond t (longer_at so_far this) so_far)
           (and_both right_access covering (eq-eqb (get_or bytes f.start 0) access worth_says.1)
           (covers_agrees bytes path a m (m_inside is_root) fits.2 agree ∙ e))
@@ -336,8 +324,8 @@ module _ {bytes : List ℕ} {access : ℕ} {path : List ℕ} {best : Span} {at :
 
 -- and where it was found worth a look its path lies inside the sheet, and is no longer than the one that is asked for
 pub room :
-    {bytes : List ℕ} {access : ℕ} {path : List ℕ} {best : Span} {at : ℕ} (f : Frame)
-    → Searching bytes access path best at → at < length bytes → answer (Whole f) ≡ framed_at bytes at
-    → (b : Bool) → b ≡ worth_it bytes f access (length path) best.len → b ≡ true
+    {bytes : List ℕ} {access : ℕ} {path : List ℕ} {best : Option Span} {at : ℕ} (f : Frame)
+    → Searching bytes access path best at → at < length bytes → good f ≡ framed_at bytes at
+    → (b : Bool) → b ≡ worth_it bytes f access (length path) (size_of best) → b ≡ true
     → (2 + root_least ≤ f.len) × (f.start + f.len ≤ length bytes) × (f.len - 2 ≤ length path)
 room f w l e b q t = fits (turns f w l e) (sym q ∙ t)

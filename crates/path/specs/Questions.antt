@@ -1,10 +1,9 @@
--- BELIEF. The three questions: the number and the event, 0 where the other is not; the root; the rest, both empty on refusal; and where the parts lie.
+-- BELIEF. The three questions: the event; the root; the rest, both empty on refusal; and where the parts lie.
 -- Assumes nothing.
 use Rattle.std.specs.Prelude.{ℕ, ◌+◌, ◌≤◌, ◌≡◌, List, [], length, take, drop}
 use Rattle.std.specs.Borrow.{Bor}
 use Rattle.meaning.specs.Refusals.{Answer, good, refused}
 use Rattle.meaning.specs.Question.{Found}
-use Rattle.path.specs.declared.Event.{Event}
 
 -- one lent slice is the part of another that begins k bytes behind its front
 pub record PartAt (k : ℕ) (part whole : Bor (List ℕ)) : Type 0 where
@@ -13,9 +12,9 @@ pub record PartAt (k : ℕ) (part whole : Bor (List ℕ)) : Type 0 where
   pub inside : k + length part.now ≤ length whole.now
   pub content : part.now ≡ take (length part.now) (drop k whole.now)
 
-unfoldable pub event_of : Answer Found → Event
-event_of (good f) = record { number = 0; event = f.event }
-event_of (refused n) = record { number = n; event = 0 }
+unfoldable pub event_of : Answer Found → Answer ℕ
+event_of (good f) = good f.event
+event_of (refused n) = refused n
 
 unfoldable pub root_of : Answer Found → List ℕ
 root_of (good f) = f.root

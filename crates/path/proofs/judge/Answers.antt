@@ -1,43 +1,45 @@
 -- `path::judge` meets its contract: each way out is a law of its own.
 -- Assumes nothing.
-use mathlib.Core.Path.{sym, ◌∙◌}
-use Rattle.path.proofs.Asking.{sheet_refused, sheet_good, asks_access, asks_empty, asks_long, asks_form, asks_nowhere, asks_under}
+use mathlib.Core.Path.{◌≡◌, sym, ◌∙◌}
+use lib.ListN.{length}
+use Rattle.std.proofs.Common.{rules}
+use Rattle.std.proofs.lemmas.Result.{err_from_is_err_and}
+use Rattle.path.proofs.Asking.{sheet_refused, sheet_good, asks_access, asks_empty, asks_long, asks_form, asks_found}
 use Rattle.path.proofs.judge.Goals as goal
 
-pub returns-then-number-ne0 : goal.returns-then-number-ne0
-returns-then-number-ne0 c = sheet_refused c.load-number.result c.load-number.ensures c.if-number-ne0.true
+pub returns-in_err-load : goal.returns-in_err-load
+returns-in_err-load c =
+    let p = err_from_is_err_and c.from_residual.result c.from_residual.ensures.1 in rw (p.1, p.2) (sheet_refused c.in_err-load.field-0.0 c.in_err-load.ensures)
 
 pub returns-then-access-gt1 : goal.returns-then-access-gt1
 returns-then-access-gt1 c =
-    let ok = sheet_good c.load-number.result c.load-number.ensures c.if-number-ne0.false in
+    let ok = sheet_good c.in_ok-load.field-0 c.in_ok-load.ensures in
     asks_access ok c.if-access-gt1.true
 
-pub returns-then-path-eq0 : goal.returns-then-path-eq0
-returns-then-path-eq0 c =
-    let ok = sheet_good c.load-number.result c.load-number.ensures c.if-number-ne0.false in
-    asks_empty ok c.if-access-gt1.false c.if-path-eq0.true
+pub returns-then-is_empty : goal.returns-then-is_empty
+returns-then-is_empty c =
+    let ok = sheet_good c.in_ok-load.field-0 c.in_ok-load.ensures in
+    let none : length c.args.path.now ≡ 0 = search rules in
+    asks_empty ok c.if-access-gt1.false none
 
 pub returns-then-path-gt-PATH : goal.returns-then-path-gt-PATH
 returns-then-path-gt-PATH c =
-    let ok = sheet_good c.load-number.result c.load-number.ensures c.if-number-ne0.false in
-    asks_long ok c.if-access-gt1.false c.if-path-eq0.false c.if-path-gt-PATH.true
+    let ok = sheet_good c.in_ok-load.field-0 c.in_ok-load.ensures in
+    let some : (length c.args.path.now ≡ 0 → ⊥) = search rules in
+    asks_long ok c.if-access-gt1.false some c.if-path-gt-PATH.true
 
 pub returns-then-not-well_formed : goal.returns-then-not-well_formed
 returns-then-not-well_formed c =
-    let ok = sheet_good c.load-number.result c.load-number.ensures c.if-number-ne0.false in
-    asks_form ok c.if-access-gt1.false c.if-path-eq0.false c.if-path-gt-PATH.false (sym c.well_formed-2.ensures ∙ c.if-not-well_formed.true)
+    let ok = sheet_good c.in_ok-load.field-0 c.in_ok-load.ensures in
+    let some : (length c.args.path.now ≡ 0 → ⊥) = search rules in
+    asks_form ok c.if-access-gt1.false some c.if-path-gt-PATH.false (sym c.well_formed-2.ensures ∙ c.if-not-well_formed.true)
 
-pub find-best-requires : goal.find-best-requires
-find-best-requires c = sheet_good c.load-number.result c.load-number.ensures c.if-number-ne0.false
-
-pub returns-then-best-eq0 : goal.returns-then-best-eq0
-returns-then-best-eq0 c =
-    let ok = sheet_good c.load-number.result c.load-number.ensures c.if-number-ne0.false in
-    let formed = sym c.well_formed-2.ensures ∙ c.if-not-well_formed.false in
-    asks_nowhere ok c.if-access-gt1.false c.if-path-eq0.false c.if-path-gt-PATH.false formed c.find-best.result c.find-best.ensures c.if-best-eq0.true
+pub find-requires : goal.find-requires
+find-requires c = sheet_good c.in_ok-load.field-0 c.in_ok-load.ensures
 
 pub returns : goal.returns
 returns c =
-    let ok = sheet_good c.load-number.result c.load-number.ensures c.if-number-ne0.false in
+    let ok = sheet_good c.in_ok-load.field-0 c.in_ok-load.ensures in
     let formed = sym c.well_formed-2.ensures ∙ c.if-not-well_formed.false in
-    asks_under ok c.if-access-gt1.false c.if-path-eq0.false c.if-path-gt-PATH.false formed c.find-best.result c.find-best.ensures c.if-best-eq0.false
+    let some : (length c.args.path.now ≡ 0 → ⊥) = search rules in
+    asks_found ok c.if-access-gt1.false some c.if-path-gt-PATH.false formed c.find.result c.find.ensures c.ok_or.result c.ok_or.ensures.value

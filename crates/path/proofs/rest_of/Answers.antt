@@ -13,6 +13,6 @@ returns-in_default c =
 
 pub returns : goal.returns
 returns c =
-    let b = c.in-Under.b in
-    let a = c.in-Under.ensures in
+    let b = c.in-Ok.b in
+    let a = c.in-Ok.ensures in
     (c.after.ensures.0 ∙ rest_under _ a b refl, rw (sym (root_length _ a b refl)) c.after.ensures.1)

@@ -15,8 +15,8 @@ returns-in_default c =
 -- the span that was found is inside the sheet
 pub returns : goal.returns
 returns c =
-    let b = c.in-Under.b in
-    let a = c.in-Under.ensures in
+    let b = c.in-Ok.b in
+    let a = c.in-Ok.ensures in
     let sheet = c.args.sheet in
     let w = a.spans b refl in (
       root_under _ a b refl,
