@@ -22,7 +22,7 @@ use Rattle.laws.proofs.Chains.{some_pair_where, chain_sound, chain_ends}
 use Rattle.laws.proofs.Accepted.{accepted}
 use Rattle.laws.proofs.Lawful.{Lawful, few_nodes}
 use Rattle.sheet.specs.declared.Sheet.{Sheet}
-use Rattle.sheet.specs.Loads.{table_of, kind_of_node, left_of, right_of, stored}
+use Rattle.sheet.specs.Loads.{table_of, kind_of_node, left_of, right_of, numbers_of, no_numbers, stored}
 use Rattle.sheet.specs.Sound.{sound_event, sound_node, sound, rules_in}
 use Rattle.sheet.proofs.Tables.{table_length, table_at}
 use Rattle.sheet.proofs.Sounds.{node_again}
@@ -37,15 +37,15 @@ none_in n p h = set_ext n (set_of n p) 0 (set_of_lt n p) (pow_pos n) (λ i l. me
     go i true e = absurd (h i e)
     go i false e = refl
 
--- a table that ends where its function is 0 from there on
-table_all : (n : ℕ) (f : ℕ → ℕ) → ((i : ℕ) → n ≤ i → f i ≡ 0) → (i : ℕ) → get_or (table_of n f) i 0 ≡ f i
-table_all n f h i = go (ltb i n) refl
+-- a table that ends where its function is d from there on
+table_all : {A : Type 0} (d : A) (n : ℕ) (f : ℕ → A) → ((i : ℕ) → n ≤ i → f i ≡ d) → (i : ℕ) → get_or (table_of n f) i d ≡ f i
+table_all d n f h i = go (ltb i n) refl
   where
-    go : (b : Bool) → ltb i n ≡ b → get_or (table_of n f) i 0 ≡ f i
-    go true e = table_at n f i (ltb-true i n e)
+    go : (b : Bool) → ltb i n ≡ b → get_or (table_of n f) i d ≡ f i
+    go true e = table_at d n f i (ltb-true i n e)
     go false e =
         let l : n ≤ i = ltb-false i n e in
-        get_or-eq_default (table_of n f) 0 {n = i} (rw table_length l) ∙ sym (h i l)
+        get_or-eq_default (table_of n f) d {n = i} (rw table_length l) ∙ sym (h i l)
 
 module _ (g : Reading) (w : Lawful g) where
   abbrev l : Lists
@@ -77,13 +77,9 @@ module _ (g : Reading) (w : Lawful g) where
 
   -- the stored numbers of a node make it again, beyond the last too
   node_stored : (n : ℕ) → (rules_in (stored l)).node n ≡ get_or l.nodes n Node.always
-  unfolding rules_in stored kind_of_node left_of right_of
+  unfolding rules_in stored numbers_of kind_of_node left_of right_of
   node_stored n =
-      rw (
-        table_all nodes_most (λ i. kind_of_node (get_or l.nodes i Node.always)) (λ i h. ap kind_of_node (beyond i h)) n,
-        table_all nodes_most (λ i. left_of (get_or l.nodes i Node.always)) (λ i h. ap left_of (beyond i h)) n,
-        table_all nodes_most (λ i. right_of (get_or l.nodes i Node.always)) (λ i h. ap right_of (beyond i h)) n,
-      )
+      rw (table_all no_numbers nodes_most (λ i. numbers_of (get_or l.nodes i Node.always)) (λ i h. ap numbers_of (beyond i h)) n)
       (node_again (get_or l.nodes n Node.always)).1
     where
       beyond : (i : ℕ) → nodes_most ≤ i → get_or l.nodes i Node.always ≡ Node.always
@@ -94,8 +90,8 @@ module _ (g : Reading) (w : Lawful g) where
   lawful_rules = λ i.
       record {
         events = l.events;
-        needs = fun_ext (table_all events_most (needed_by l.causes l.events) needs_beyond) i;
-        conflicts = fun_ext (table_all events_most (conflicting_with l.conflicts l.events) conflicts_beyond) i;
+        needs = fun_ext (table_all 0 events_most (needed_by l.causes l.events) needs_beyond) i;
+        conflicts = fun_ext (table_all 0 events_most (conflicting_with l.conflicts l.events) conflicts_beyond) i;
         nodes = length l.nodes;
         node = fun_ext node_stored i;
       }
@@ -135,7 +131,7 @@ module _ (s : Sheet) (ok : sound s ≡ true) where
   event_sound e l =
       let counts = leb 1 s.events && leb s.events events_most && leb 1 s.nodes && leb s.nodes nodes_most in
       let test : ℕ → Bool = sound_event s.needs s.conflicts s.events in
-      let nodes = every s.nodes (sound_node s.kinds s.left s.right s.events) in
+      let nodes = every s.nodes (sound_node s.node s.events) in
       let low = ltb (get_or s.needs e 0) (2 ^ e) in
       let inside = ltb (get_or s.conflicts e 0) (2 ^ s.events) in
       let alone = not (mem e (get_or s.conflicts e 0)) in

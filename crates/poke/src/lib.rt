@@ -115,9 +115,9 @@ fn put_at_node(mut s: Sheet, f: Field, i: usize, v: u64) -> Sheet {
         return s;
     }
     match f {
-        Field::Kind => s.kinds[i] = low8(v),
-        Field::Left => s.left[i] = low8(v),
-        Field::Right => s.right[i] = low8(v),
+        Field::Kind => s.node[i].kind = low8(v),
+        Field::Left => s.node[i].left = low8(v),
+        Field::Right => s.node[i].right = low8(v),
         _ => {}
     }
     s

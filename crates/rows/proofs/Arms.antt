@@ -17,18 +17,19 @@ use Rattle.meaning.specs.Steps.{node_bit, row_to}
 use Rattle.laws.proofs.Quantifiers.{and_left, and_right, every_each}
 use Rattle.laws.proofs.SetLaws.{grown_lt}
 use Rattle.sheet.specs.declared.Sheet.{Sheet}
+use Rattle.sheet.specs.Loads.{no_numbers}
 use Rattle.sheet.specs.Sound.{sound_event, sound_node, sound, rules_in}
 use Rattle.rows.specs.Needs.{NodeFits}
 
 module _ (s : Sheet) (n : ℕ) (f : NodeFits s n) where
   abbrev k : ℕ
-  k = get_or s.kinds n 0
+  k = (get_or s.node n no_numbers).kind
 
   abbrev a : ℕ
-  a = get_or s.left n 0
+  a = (get_or s.node n no_numbers).left
 
   abbrev b : ℕ
-  b = get_or s.right n 0
+  b = (get_or s.node n no_numbers).right
 
   -- in range, once the kind is known
   ranged_as : (j : ℕ) → k ≡ j → node_in_range s.events n (node_of j a b) ≡ true
@@ -77,7 +78,7 @@ module _ (s : Sheet) (ok : sound s ≡ true) where
   E = every s.events (sound_event s.needs s.conflicts s.events)
 
   abbrev N : Bool
-  N = every s.nodes (sound_node s.kinds s.left s.right s.events)
+  N = every s.nodes (sound_node s.node s.events)
 
   -- 1 to the most events and nodes, each of them sound
   parts : (1 ≤ s.events) × (s.events ≤ events_most) × (1 ≤ s.nodes) × (s.nodes ≤ nodes_most) × (E ≡ true) × (N ≡ true)
@@ -115,8 +116,8 @@ module _ (s : Sheet) (ok : sound s ≡ true) where
   unfolding sound_node rules_in
   node_fits_lem n l =
       let h = few_nodes in
-      let e = every_each (sound_node s.kinds s.left s.right s.events) s.nodes n l parts.5 in
-      record { below = omega arith; few = few_events; ranged = and_right (ltb (get_or s.kinds n 0) node_kinds_end) _ e }
+      let e = every_each (sound_node s.node s.events) s.nodes n l parts.5 in
+      record { below = omega arith; few = few_events; ranged = and_right (ltb (get_or s.node n no_numbers).kind node_kinds_end) _ e }
 
 -- A ROW GROWS
 

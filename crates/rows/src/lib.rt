@@ -27,10 +27,10 @@ fn node_bit(s: Sheet, before: u64, x: u32, now: u64, n: usize) -> bool
     requires { NodeFits s n }
     ensures { result ≡ node_bit (rules_in s) before x now n ((rules_in s).node n) }
 {
-    let k = s.kinds[n];
-    let a = bits::small(s.left[n]);
-    let b = bits::small(s.right[n]);
-    match k {
+    let v = s.node[n];
+    let a = bits::small(v.left);
+    let b = bits::small(v.right);
+    match v.kind {
         1 => atom(s, true, a, x),
         2 => atom(s, false, a, x),
         3 => !bits::bit(now, a),

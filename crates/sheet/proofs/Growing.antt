@@ -26,7 +26,8 @@ use Rattle.laws.proofs.Chains.{Listed, Upward}
 use Rattle.laws.proofs.ByKind.{known_cases}
 use Rattle.laws.proofs.Lawful.{passed, Lawful, lawful_after}
 use Rattle.laws.proofs.Ordered.{first_only}
-use Rattle.sheet.specs.Loads.{table_of, kind_of_node, left_of, right_of, stored}
+use Rattle.sheet.specs.declared.Node.{Node as Numbers}
+use Rattle.sheet.specs.Loads.{table_of, kind_of_node, left_of, right_of, numbers_of, no_numbers, stored}
 use Rattle.sheet.specs.ByRecord.{with_cause, with_conflict, put_record}
 use Rattle.sheet.proofs.Tables.{table_at, table_ext, table_set}
 
@@ -75,8 +76,8 @@ module _ (s : Sheet.Sheet) (few : s.events ≤ events_most) (a b : ℕ) (l : a <
   unfolding with_cause
   needs_grow up low =
       sym
-      (table_set events_most old (needed_by (s.causes ++ ((a, b) ∷ [])) n) b _
-      (ap₂ (λ (x y : ℕ). bit_or (bit_or x y) (2 ^ a)) (table_at events_most old b (omega arith)) (table_at events_most old a (omega arith))
+      (table_set 0 events_most old (needed_by (s.causes ++ ((a, b) ∷ [])) n) b _
+      (ap₂ (λ (x y : ℕ). bit_or (bit_or x y) (2 ^ a)) (table_at 0 events_most old b (omega arith)) (table_at 0 events_most old a (omega arith))
       ∙ sym (needed_here s.causes a b n up low))
       (λ i k ne. sym (needed_other s.causes a b n up low i ne)))
     where
@@ -105,8 +106,8 @@ module _ (s : Sheet.Sheet) (few : s.events ≤ events_most) (a b : ℕ) (l : a <
 
       once : first ≡ table_of events_most half
       once =
-          table_set events_most old half a _
-          (ap (λ (x : ℕ). bit_or x (2 ^ b)) (table_at events_most old a (omega arith)) ∙ sym (conflict_low s.conflicts a b n l h) ∙ sym (rw (eq-eqb a a refl)))
+          table_set 0 events_most old half a _
+          (ap (λ (x : ℕ). bit_or x (2 ^ b)) (table_at 0 events_most old a (omega arith)) ∙ sym (conflict_low s.conflicts a b n l h) ∙ sym (rw (eq-eqb a a refl)))
           (λ i k ne. sym (rw (ne_eqb i a ne)))
 
       other : (i : ℕ) → (i ≡ b → ⊥) → (t : Bool) → eqb i a ≡ t → cond t (new a) (old i) ≡ new i
@@ -116,8 +117,8 @@ module _ (s : Sheet.Sheet) (few : s.events ≤ events_most) (a b : ℕ) (l : a <
       twice : set first b (bit_or (get_or first b 0) (2 ^ a)) ≡ table_of events_most new
       twice =
           ap (λ (t : List ℕ). set t b (bit_or (get_or t b 0) (2 ^ a))) once
-          ∙ table_set events_most half new b _
-          (ap (λ (x : ℕ). bit_or x (2 ^ a)) (table_at events_most half b (omega arith) ∙ half_b) ∙ sym (conflict_high s.conflicts a b n l h))
+          ∙ table_set 0 events_most half new b _
+          (ap (λ (x : ℕ). bit_or x (2 ^ a)) (table_at 0 events_most half b (omega arith) ∙ half_b) ∙ sym (conflict_high s.conflicts a b n l h))
           (λ i k ne. other i ne (eqb i a) refl)
 
 -- NODES
@@ -150,20 +151,27 @@ module _ (p : List ℕ) (f : node_fits p ≡ true) where
       (λ h. get_or-eq_default p 0 h)
       (λ h. get_or-eq_default p 0 h)
 
-  -- a table over the nodes, with one node more
-  module _ (s : Sheet.Sheet) (number : Node → ℕ) where
-    abbrev before : ℕ → ℕ
-    before n = number (get_or s.nodes n Node.always)
+  abbrev numbered : Numbers
+  numbered = record { kind = get_or p 0 0; left = get_or p 1 0; right = get_or p 2 0 }
 
-    abbrev after : ℕ → ℕ
-    after n = number (get_or (s.nodes ++ (made ∷ [])) n Node.always)
+  as_numbered : numbers_of made ≡ numbered
+  unfolding numbers_of
+  as_numbered = rw (numbers.0, numbers.1, numbers.2)
 
-    added : (v : ℕ) → number made ≡ v → table_of nodes_most after ≡ set (table_of nodes_most before) (length s.nodes) v
-    added v e =
+  -- the table of the nodes, with one node more
+  module _ (s : Sheet.Sheet) where
+    abbrev before : ℕ → Numbers
+    before n = numbers_of (get_or s.nodes n Node.always)
+
+    abbrev after : ℕ → Numbers
+    after n = numbers_of (get_or (s.nodes ++ (made ∷ [])) n Node.always)
+
+    added : table_of nodes_most after ≡ set (table_of nodes_most before) (length s.nodes) numbered
+    added =
         sym
-        (table_set nodes_most before after (length s.nodes) v
-        (sym (ap number (get_or_at s.nodes made [] Node.always (length s.nodes) refl) ∙ e))
-        (λ i l ne. ap number (same i ne (ltb i (length s.nodes)) refl)))
+        (table_set no_numbers nodes_most before after (length s.nodes) numbered
+        (sym (ap numbers_of (get_or_at s.nodes made [] Node.always (length s.nodes) refl) ∙ as_numbered))
+        (λ i l ne. ap numbers_of (same i ne (ltb i (length s.nodes)) refl)))
       where
         same : (i : ℕ) → (i ≡ length s.nodes → ⊥) → (t : Bool) → ltb i (length s.nodes) ≡ t
             → get_or s.nodes i Node.always ≡ get_or (s.nodes ++ (made ∷ [])) i Node.always
@@ -222,15 +230,8 @@ module _ (g : Reading) (w : Lawful g) (p : List ℕ) where
   after_root f e = refl
 
   after_node : Goal 5
-  unfolding stored noted also put_record kind_of_node left_of right_of
-  after_node f e =
-      let m = numbers p (f refl) in
-      rw (
-        added p (f refl) g.lists kind_of_node (get_or p 0 0) m.0,
-        added p (f refl) g.lists left_of (get_or p 1 0) m.1,
-        added p (f refl) g.lists right_of (get_or p 2 0) m.2,
-        length-append,
-      )
+  unfolding stored noted also put_record
+  after_node f e = rw (added p (f refl) g.lists, length-append)
 
   pub stored_after : (k : ℕ) → Known k → Goal k
   stored_after = known_cases Goal after_count after_cause after_conflict after_root after_node

@@ -27,7 +27,7 @@ use Rattle.faults.specs.declared.Tally.{Tally}
 use Rattle.faults.specs.Tallies.{LastInside, payload_in, item_in, tallied}
 use Rattle.faults.proofs.Framed.{frame_at_lem, frame_kind, frame_inside, frame_next, frame_payload, frame_item, frame_behind, frame_node}
 use Rattle.sheet.specs.declared.Sheet.{Sheet}
-use Rattle.sheet.specs.Loads.{table_of, kind_of_node, left_of, right_of, nothing, stored, answered}
+use Rattle.sheet.specs.Loads.{table_of, kind_of_node, left_of, right_of, numbers_of, nothing, stored, answered}
 use Rattle.sheet.specs.ByRecord.{put_record, counted, no_tally}
 use Rattle.sheet.proofs.Growing.{stored_after}
 
@@ -48,7 +48,7 @@ pub record Walking (s : List ℕ) (x : Sheet) (t : Tally) (at : ℕ) : Type 0 wh
   pub same : walk steps reading (drop at s) ≡ walk (length s) nothing_read s
 
 pub start : (s : List ℕ) → Walking s nothing no_tally 0
-unfolding nothing stored nothing_read no_tally tallied tally item_in payload_in item_of key_of table_of needed_by conflicting_with set_of kind_of_node left_of right_of
+unfolding nothing stored nothing_read no_tally tallied tally item_in payload_in item_of key_of table_of needed_by conflicting_with set_of numbers_of kind_of_node left_of right_of
 start s =
     record {
       reading = nothing_read;

@@ -22,7 +22,7 @@ use Rattle.laws.proofs.SetLaws.{mem_of, set_of_lt, set_of_bound}
 use Rattle.laws.proofs.Chains.{some_pair_where, chain_sound, chain_ends}
 use Rattle.laws.proofs.Accepted.{accepted, accepted_walk}
 use Rattle.laws.proofs.Lawful.{Lawful, few_nodes}
-use Rattle.sheet.specs.Loads.{kind_of_node, left_of, right_of, stored}
+use Rattle.sheet.specs.Loads.{kind_of_node, left_of, right_of, numbers_of, no_numbers, stored}
 use Rattle.sheet.specs.Sound.{sound_event, sound_node, sound}
 use Rattle.sheet.proofs.Tables.{table_at}
 
@@ -82,23 +82,21 @@ module _ (g : Reading) (w : Lawful g) where
       let few = w.few_events in
       let small : e < events_most = omega arith in
       rw (
-        table_at events_most (needed_by s.causes n) e small,
-        table_at events_most (conflicting_with s.conflicts n) e small,
+        table_at 0 events_most (needed_by s.causes n) e small,
+        table_at 0 events_most (conflicting_with s.conflicts n) e small,
         lt-ltb (needed_by s.causes n e) (2 ^ e) (needs_below e),
         lt-ltb (conflicting_with s.conflicts n e) (2 ^ n) (conflicts_inside e),
       )
       (ap not (not_itself e))
 
-  node_sound : (k : ℕ) → k < length s.nodes → sound_node (stored s).kinds (stored s).left (stored s).right n k ≡ true
-  unfolding sound_node stored
+  node_sound : (k : ℕ) → k < length s.nodes → sound_node (stored s).node n k ≡ true
+  unfolding sound_node stored numbers_of
   node_sound k l =
       let few = few_nodes g w in
       let small : k < nodes_most = omega arith in
       let v : Node = get_or s.nodes k Node.always in
       rw (
-        table_at nodes_most (λ i. kind_of_node (get_or s.nodes i Node.always)) k small,
-        table_at nodes_most (λ i. left_of (get_or s.nodes i Node.always)) k small,
-        table_at nodes_most (λ i. right_of (get_or s.nodes i Node.always)) k small,
+        table_at no_numbers nodes_most (λ i. numbers_of (get_or s.nodes i Node.always)) k small,
         lt-ltb (kind_of_node v) node_kinds_end (node_again v).0,
         (node_again v).1,
       )
@@ -113,7 +111,7 @@ module _ (g : Reading) (w : Lawful g) where
         le-leb 1 (length s.nodes) k,
         le-leb (length s.nodes) nodes_most (few_nodes g w),
         every_if (sound_event (stored s).needs (stored s).conflicts n) n event_sound,
-        every_if (sound_node (stored s).kinds (stored s).left (stored s).right n) (length s.nodes) node_sound,
+        every_if (sound_node (stored s).node n) (length s.nodes) node_sound,
       )
 
 -- What `load` accepts is sound.

@@ -28,9 +28,7 @@ put_record x k p =
       needs = cond (eqb k of_cause) (with_cause x.needs a b) x.needs;
       conflicts = cond (eqb k of_conflict) (with_conflict x.conflicts a b) x.conflicts;
       nodes = cond (eqb k of_node) (x.nodes + 1) x.nodes;
-      kinds = cond (eqb k of_node) (set x.kinds x.nodes a) x.kinds;
-      left = cond (eqb k of_node) (set x.left x.nodes b) x.left;
-      right = cond (eqb k of_node) (set x.right x.nodes (get_or p 2 0)) x.right;
+      node = cond (eqb k of_node) (set x.node x.nodes (record { kind = a; left = b; right = get_or p 2 0 })) x.node;
     }
 
 -- a record of kind k fits the places of a loaded sheet with so many nodes

@@ -6,10 +6,11 @@ use Rattle.meaning.specs.Rules.{Node}
 use Rattle.meaning.specs.Events.{needed_by, conflicting_with}
 use Rattle.meaning.specs.Refusals.{Answer, good, refused}
 use Rattle.meaning.specs.Sheet
+use Rattle.sheet.specs.declared.Node.{Node as Numbers}
 use Rattle.sheet.specs.declared.Sheet.{Sheet}
 
 -- f 0, f 1, .. f (n - 1)
-unfoldable pub table_of : ℕ → (ℕ → ℕ) → List ℕ
+unfoldable pub table_of : {A : Type 0} → ℕ → (ℕ → A) → List A
 table_of zero f = []
 table_of (suc n) f = table_of n f ++ (f n ∷ [])
 
@@ -44,6 +45,13 @@ right_of (Node.either a b) = b
 right_of (Node.previous a) = 0
 right_of (Node.since a b) = b
 
+unfoldable pub numbers_of : Node → Numbers
+numbers_of v = record { kind = kind_of_node v; left = left_of v; right = right_of v }
+
+-- no node: every number 0
+abbrev pub no_numbers : Numbers
+no_numbers = record { kind = 0; left = 0; right = 0 }
+
 -- what is kept of a sheet's lists
 unfoldable pub stored : Sheet.Sheet → Sheet
 stored s =
@@ -52,9 +60,7 @@ stored s =
       needs = table_of events_most (needed_by s.causes s.events);
       conflicts = table_of events_most (conflicting_with s.conflicts s.events);
       nodes = length s.nodes;
-      kinds = table_of nodes_most (λ n. kind_of_node (get_or s.nodes n Node.always));
-      left = table_of nodes_most (λ n. left_of (get_or s.nodes n Node.always));
-      right = table_of nodes_most (λ n. right_of (get_or s.nodes n Node.always));
+      node = table_of nodes_most (λ n. numbers_of (get_or s.nodes n Node.always));
     }
 
 -- every number 0
@@ -65,9 +71,7 @@ nothing =
       needs = replicate events_most 0;
       conflicts = replicate events_most 0;
       nodes = 0;
-      kinds = replicate nodes_most 0;
-      left = replicate nodes_most 0;
-      right = replicate nodes_most 0;
+      node = replicate nodes_most no_numbers;
     }
 
 -- a refused load gives no sheet

@@ -15,6 +15,14 @@ use refusals::Refusal;
 
 mod soundness;
 
+// A node as numbers: its kind and its operands, 0 where it has none.
+#[derive(Clone, Copy)]
+pub struct Node {
+    pub kind: u8,
+    pub left: u8,
+    pub right: u8,
+}
+
 // What the monitor needs of a sheet, and no more.
 #[derive(Clone, Copy)]
 pub struct Sheet {
@@ -23,10 +31,8 @@ pub struct Sheet {
     pub needs: [u32; limits::EVENTS],
     pub conflicts: [u32; limits::EVENTS],
     pub nodes: usize,
-    // For each node its kind and its operands, 0 where it has none.
-    pub kinds: [u8; limits::NODES],
-    pub left: [u8; limits::NODES],
-    pub right: [u8; limits::NODES],
+    // The nodes, and zeroes behind them.
+    pub node: [Node; limits::NODES],
 }
 
 // b needs a, and whatever a needs.
@@ -63,9 +69,11 @@ impl Sheet {
             needs: [0; limits::EVENTS],
             conflicts: [0; limits::EVENTS],
             nodes: 0,
-            kinds: [0; limits::NODES],
-            left: [0; limits::NODES],
-            right: [0; limits::NODES],
+            node: [Node {
+                kind: 0,
+                left: 0,
+                right: 0,
+            }; limits::NODES],
         }
     }
 
@@ -84,9 +92,11 @@ impl Sheet {
             Kind::Root => {}
             Kind::Node => {
                 let n = self.nodes;
-                self.kinds[n] = a;
-                self.left[n] = b;
-                self.right[n] = keys::byte(p, 2);
+                self.node[n] = Node {
+                    kind: a,
+                    left: b,
+                    right: keys::byte(p, 2),
+                };
                 self.nodes = n + 1;
             }
         }

@@ -22,11 +22,11 @@ impl Sheet {
     #[tactic(auto, unfolding(crate::specs::Sound::sound_node))]
     fn node_sound(&self, n: usize) -> bool
         requires { n < nodes_most }
-        ensures { result ≡ sound_node self.now.kinds self.now.left self.now.right self.now.events n }
+        ensures { result ≡ sound_node self.now.node self.now.events n }
     {
-        let kind = self.kinds[n];
-        usize::from(kind) < limits::NODE_KINDS
-            && ranges::node_ok(kind, self.left[n], self.right[n], self.events, n)
+        let v = self.node[n];
+        usize::from(v.kind) < limits::NODE_KINDS
+            && ranges::node_ok(v.kind, v.left, v.right, self.events, n)
     }
 
     pub fn is_sound(&self) -> bool

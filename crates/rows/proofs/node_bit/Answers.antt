@@ -4,18 +4,13 @@ use lib.ListN.{get_or}
 use Rattle.meaning.specs.Sheet.{node_of, node_kind, node_kinds}
 use Rattle.meaning.specs.Steps.{node_bit}
 use Rattle.laws.proofs.Nodes.{node_else}
+use Rattle.sheet.specs.Loads.{no_numbers}
 use Rattle.sheet.specs.Sound.{rules_in}
 use Rattle.rows.proofs.Arms.{event_left, possible_left, not_left, previous_left, and_operands, or_operands, since_operands}
 use Rattle.rows.proofs.node_bit.Goals as goal
 
 pub bounds-s-n : goal.bounds-s-n
 bounds-s-n c = c.requires.below
-
-pub bounds-s-n-2 : goal.bounds-s-n-2
-bounds-s-n-2 c = c.requires.below
-
-pub bounds-s-n-3 : goal.bounds-s-n-3
-bounds-s-n-3 c = c.requires.below
 
 pub atom-requires : goal.atom-requires
 atom-requires c =
@@ -96,5 +91,5 @@ returns-in_default c =
     let s = c.args.s in
     let n = c.args.n in
     rw
-    (node_else (get_or s.kinds n 0) (get_or s.left n 0) (get_or s.right n 0)
+    (node_else (get_or s.node n no_numbers).kind (get_or s.node n no_numbers).left (get_or s.node n no_numbers).right
     z.0.0.0.0.0.0.1 z.0.0.0.0.0.1 z.0.0.0.0.1 z.0.0.0.1 z.0.0.1 z.0.1 z.1)

@@ -15,9 +15,9 @@ pub returns-then-all : goal.returns-then-all
 unfolding sound
 returns-then-all c =
     let s = c.args.self.now in
-    let nodes : c.all-then-all.result ≡ every s.nodes (sound_node s.kinds s.left s.right s.events) =
-    all_from_yields_List (sound_node s.kinds s.left s.right s.events) _ _ _ c.all-then-all.ensures.ran (YieldsList-from_range 0 s.nodes s.nodes refl (omega arith)) (λ x r q k. search (rules, tests))
-    ∙ every_range s.nodes (sound_node s.kinds s.left s.right s.events) in
+    let nodes : c.all-then-all.result ≡ every s.nodes (sound_node s.node s.events) =
+    all_from_yields_List (sound_node s.node s.events) _ _ _ c.all-then-all.ensures.ran (YieldsList-from_range 0 s.nodes s.nodes refl (omega arith)) (λ x r q k. search (rules, tests))
+    ∙ every_range s.nodes (sound_node s.node s.events) in
     elim c.if-contains-2.branch [
       | then-contains-2 w ↦
           let events : w.all.result ≡ every s.events (sound_event s.needs s.conflicts s.events) =
