@@ -13,11 +13,10 @@ use borrow.Author.Tests.{leb-true, leb-false, lt-ltb, le-ltb}
 use Rattle.meaning.specs.Limits.{kept_most, header_kind, session_kind, head_length, count_length, row_length, set_length, total_at, gone_at, carried_at, header_length, session_length}
 use Rattle.meaning.specs.Lists.{all}
 use Rattle.meaning.specs.Rules.{Rules}
-use Rattle.meaning.specs.Events.{possible, supported, allowed, closed}
+use Rattle.meaning.specs.Events.{allowed, closed}
 use Rattle.meaning.specs.Records.{marked, kind_of}
 use Rattle.meaning.specs.Refusals.{good, refused}
 use Rattle.meaning.specs.Image.{number_of, in_parts, headed, kept_in, sessions_in, said, misshapen, oldest_closed, unlawful}
-use Rattle.events.specs.Tables.{rules_over}
 use Rattle.sheet.specs.declared.Sheet.{Sheet}
 use Rattle.sheet.specs.Sound.{rules_in}
 use Rattle.image.specs.Parts.{image_length, front_of, fine, unlawful_in}
@@ -179,11 +178,6 @@ not_beyond n x = go (leb (2 ^ n) x) refl
     go : (b : Bool) → leb (2 ^ n) x ≡ b → not b ≡ ltb x (2 ^ n)
     go true e = sym (le-ltb x (2 ^ n) (leb-true (2 ^ n) x e))
     go false e = sym (lt-ltb x (2 ^ n) (leb-false (2 ^ n) x e))
-
--- the tables of a sheet say what the sheet says
-pub allowed_over : (s : Sheet) (x : ℕ) → allowed (rules_over s.needs s.conflicts s.events) x ≡ allowed (rules_in s) x
-unfolding allowed possible supported rules_over rules_in
-allowed_over s x = refl
 
 pub fine_is : (s : Sheet) (x : ℕ) → (ltb x (2 ^ s.events) && allowed (rules_in s) x) ≡ fine (rules_in s) x
 unfolding fine rules_in

@@ -100,9 +100,7 @@ fn fine(s: Sheet, x: u32) -> bool
     requires { sound s ≡ true }
     ensures { result ≡ fine_by (rules_in s) x }
 {
-    let needs = s.needs;
-    let conflicts = s.conflicts;
-    !beyond(s.events, x as u64) & events::allowed(&needs, &conflicts, s.events, x)
+    !beyond(s.events, x as u64) & events::allowed(&s, x)
 }
 
 // Whether each of the first `kept` sets is fine.

@@ -6,6 +6,7 @@ use native.Mathlib.Omega.{arith}
 use mathlib.Core.Path.{◌≡◌, refl, sym, ap, ap₂, ◌∙◌}
 use mathlib.Core.Bool.{Bool, true, false, false≢true, ◌&&◌, ◌||◌}
 use mathlib.Core.Logic.{◌⊎◌, inl, inr, ⊎_elim}
+use Rattle.std.proofs.Math.Bool.{and_assoc}
 use Rattle.std.specs.List.{list_all, range_with_len}
 use Rattle.meaning.specs.Sets.{some, every}
 
@@ -97,19 +98,12 @@ module _ (p q : ℕ → Bool) where
   every_ext zero h = refl
   every_ext (suc n) h = ap₂ ◌&&◌ (every_ext n (λ k l. h k (omega arith))) (h n (omega arith))
 
--- what is first may stand first
-every_front : (n : ℕ) (p : ℕ → Bool) → every (suc n) p ≡ (p 0 && every n (λ k. p (suc k)))
+-- The tests at 0, 1, .. n - 1, made one after another.
+pub every_range : (p : ℕ → Bool) (n : ℕ) → list_all p (range_with_len 0 n) ≡ every n p
 unfolding every
-every_front zero p = sym (and_true (p 0))
-every_front (suc n) p = rw (every_front n p) (and_assoc (p 0) (every n (λ k. p (suc k))) (p (suc n)))
-
--- `all` of the library's range
-every_from : (p : ℕ → Bool) (a n : ℕ) → list_all p (range_with_len a n) ≡ every n (λ k. p (a + k))
-unfolding every
-every_from p a zero = refl
-every_from p a (suc n) =
-    ap (λ (b : Bool). p a && b) (every_from p (a + 1) n ∙ every_ext (λ k. p (a + 1 + k)) (λ k. p (a + suc k)) n (λ k l. ap p (omega arith)))
-    ∙ sym (every_front n (λ k. p (a + k)) ∙ ap (λ (i : ℕ). p i && every n (λ k. p (a + suc k))) (omega arith))
-
-pub every_range : (n : ℕ) (p : ℕ → Bool) → list_all p (range_with_len 0 n) ≡ every n p
-every_range n p = every_from p 0 n ∙ every_ext (λ k. p (0 + k)) p n (λ k l. ap p (omega arith))
+every_range p zero = refl
+every_range p (suc n) = with_last 0 n n (omega arith) ∙ ap (λ (b : Bool). b && p n) (every_range p n)
+  where
+    with_last : (a n k : ℕ) → k ≡ a + n → list_all p (range_with_len a (suc n)) ≡ (list_all p (range_with_len a n) && p k)
+    with_last a zero k e = let q : a ≡ k = omega arith in and_true (p a) ∙ ap p q
+    with_last a (suc n) k e = ap (λ (b : Bool). p a && b) (with_last (a + 1) n k (omega arith)) ∙ sym (and_assoc (p a) (list_all p (range_with_len (a + 1) n)) (p k))

@@ -9,12 +9,9 @@ use native.Mathlib.Omega.{arith}
 use lib.ListN.{length, get_or, set, take, drop, length-take, drop_of_length-le}
 use lib.Seq.{length-take-le, get_or-take, drop-cons}
 use Rattle.meaning.specs.Rules.{Rules}
-use Rattle.meaning.specs.Events.{possible, supported, addable, closed}
+use Rattle.meaning.specs.Events.{closed}
 use Rattle.meaning.specs.Steps.{next_row}
 use Rattle.meaning.specs.History.{let_go}
-use Rattle.events.specs.Tables.{rules_over}
-use Rattle.sheet.specs.declared.Sheet.{Sheet}
-use Rattle.sheet.specs.Sound.{rules_in}
 use Rattle.window.specs.Kept.{row_before, refreshed}
 
 pub first_before : (carried : ℕ) (rows : List ℕ) (j : ℕ) → j ≡ 0 → carried ≡ row_before carried rows j
@@ -25,11 +22,6 @@ pub later_before : (carried : ℕ) (rows : List ℕ) (j : ℕ) → (j ≡ 0 → 
 unfolding row_before
 later_before carried rows zero n = absurd (n refl)
 later_before carried rows (suc j) n = ap (λ (i : ℕ). get_or rows i 0) (let e : suc j - 1 ≡ j = omega arith in e)
-
--- the tables of a sheet say what the sheet says
-pub closed_over : (s : Sheet) (x : ℕ) → closed (rules_over s.needs s.conflicts s.events) x ≡ closed (rules_in s) x
-unfolding closed addable possible supported rules_over rules_in
-closed_over s x = refl
 
 module _ (r : Rules) (carried : ℕ) (sets : List ℕ) where
   pub refreshed_step :

@@ -33,9 +33,7 @@ pub fn is_closed(s: Sheet, x: u32) -> bool
     requires { sound s ≡ true }
     ensures { result ≡ closed_by (rules_in s) x }
 {
-    let needs = s.needs;
-    let conflicts = s.conflicts;
-    events::closed(&needs, &conflicts, s.events, x)
+    events::closed(&s, x)
 }
 
 // The rows from place `from` on, made anew from the row before it and the sets.

@@ -1,28 +1,19 @@
--- `events::within` meets its contract. The loop's invariant: the events below e pass exactly if `ok` says so.
+-- `events::within` meets its contract.
 -- Assumes nothing.
-use mathlib.Core.Path.{◌≡◌, refl}
+use mathlib.Core.Path.{◌∙◌, refl}
+use mathlib.Core.Bool.{not, ◌||◌}
 use native.Mathlib.Omega.{arith}
-use native.Mathlib.Numerals.{add-one}
-use Rattle.meaning.specs.Sets.{every, within}
+use borrow.Author.Tests.{tests}
+use Rattle.std.proofs.Common.{rules, ℕ}
+use Rattle.std.proofs.lemmas.Iterator.{YieldsList-from_range}
+use Rattle.std.proofs.lemmas.Iterator.Search.{all_from_yields_List}
+use Rattle.meaning.specs.Sets.{mem, within}
+use Rattle.laws.proofs.Quantifiers.{every_range}
 use Rattle.events.proofs.within.Goals as goal
-
-pub loop-e-init : goal.loop-e-init
-unfolding every
-loop-e-init c = (omega arith, refl)
-
-pub carried-ok-requires : goal.carried-ok-requires
-carried-ok-requires c = omega arith
-
-pub overflow_add-e : goal.overflow_add-e
-overflow_add-e c = omega arith
-
-pub loop-e-smaller : goal.loop-e-smaller
-loop-e-smaller c = omega arith
-
-pub loop-e-preserved : goal.loop-e-preserved
-unfolding every
-loop-e-preserved c = (omega arith, rw (add-one, c.carried-ok.ensures, c.loop-e.invariant.1))
 
 pub returns : goal.returns
 unfolding within
-returns c = let q : c.loop-e.e ≡ c.args.n = omega arith in rw (← q) c.loop-e.invariant.1
+returns c =
+    let n = c.args.n in
+    let test = λ (i : ℕ). not (mem i c.args.x) || mem i c.args.y in
+    all_from_yields_List test _ _ _ c.all.ensures.ran (YieldsList-from_range 0 n n refl (omega arith)) (λ x b q k. search (rules, tests)) ∙ every_range test n

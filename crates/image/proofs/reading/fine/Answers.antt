@@ -2,7 +2,7 @@
 -- Assumes nothing.
 use native.Mathlib.Omega.{arith}
 use Rattle.rows.proofs.Arms.{few_events}
-use Rattle.image.proofs.Saying.{not_beyond, allowed_over, fine_is}
+use Rattle.image.proofs.Saying.{not_beyond, fine_is}
 use Rattle.image.proofs.reading.fine.Goals as goal
 
 pub beyond-requires : goal.beyond-requires
@@ -13,5 +13,5 @@ allowed-requires c = few_events c.args.s c.requires
 
 pub returns : goal.returns
 returns c =
-    rw (c.beyond.ensures, not_beyond c.args.s.events c.args.x, c.allowed.ensures, allowed_over c.args.s c.args.x)
+    rw (c.beyond.ensures, not_beyond c.args.s.events c.args.x, c.allowed.ensures)
     (fine_is c.args.s c.args.x)

@@ -17,12 +17,12 @@ returns-then-all c =
     let s = c.args.self.now in
     let nodes : c.all-then-all.result ≡ every s.nodes (sound_node s.node s.events) =
     all_from_yields_List (sound_node s.node s.events) _ _ _ c.all-then-all.ensures.ran (YieldsList-from_range 0 s.nodes s.nodes refl (omega arith)) (λ x r q k. search (rules, tests))
-    ∙ every_range s.nodes (sound_node s.node s.events) in
+    ∙ every_range (sound_node s.node s.events) s.nodes in
     elim c.if-contains-2.branch [
       | then-contains-2 w ↦
           let events : w.all.result ≡ every s.events (sound_event s.needs s.conflicts s.events) =
           all_from_yields_List (sound_event s.needs s.conflicts s.events) _ _ _ w.all.ensures.ran (YieldsList-from_range 0 s.events s.events refl (omega arith)) (λ x r q k. search (rules, tests))
-          ∙ every_range s.events (sound_event s.needs s.conflicts s.events) in
+          ∙ every_range (sound_event s.needs s.conflicts s.events) s.events in
           grind (arith, nat_tests)
       | else-contains-2 w ↦ grind (arith, nat_tests)
     ]
@@ -35,7 +35,7 @@ returns-else-all c =
       | then-contains-2 w ↦
           let events : w.all.result ≡ every s.events (sound_event s.needs s.conflicts s.events) =
           all_from_yields_List (sound_event s.needs s.conflicts s.events) _ _ _ w.all.ensures.ran (YieldsList-from_range 0 s.events s.events refl (omega arith)) (λ x r q k. search (rules, tests))
-          ∙ every_range s.events (sound_event s.needs s.conflicts s.events) in
+          ∙ every_range (sound_event s.needs s.conflicts s.events) s.events in
           grind (arith, nat_tests)
       | else-contains-2 w ↦ grind (arith, nat_tests)
     ]
