@@ -4,7 +4,7 @@
 ghost use Rattle.std.specs.Prelude.{◌≡◌, ◌&&◌, ◌≤◌, ◌<◌};
 ghost use Rattle.meaning.specs.Limits.{events_most};
 ghost use Rattle.meaning.specs.Sets.{mem, added as added_to, apart as apart_in, within as within_in};
-ghost use Rattle.meaning.specs.Events.{possible, supported, closed as closed_by, allowed as allowed_by};
+ghost use Rattle.meaning.specs.Events.{possible as possible_in, supported as supported_in, closed as closed_by, allowed as allowed_by};
 ghost use Rattle.sheet.specs.Sound.{rules_in};
 
 use sheet::Sheet;
@@ -41,12 +41,28 @@ pub fn within(n: usize, x: u32, y: u32) -> bool
     (0..n).all(|e| !has(x, e) || has(y, e))
 }
 
+// Whether event e conflicts with no member of x.
+pub fn possible(s: &Sheet, x: u32, e: usize) -> bool
+    requires { (s.now.events ≤ events_most) × (e < events_most) }
+    ensures { result ≡ possible_in (rules_in s.now) e x }
+{
+    apart(s.events, s.conflicts[e], x)
+}
+
+// Whether x holds every cause of event e.
+pub fn supported(s: &Sheet, x: u32, e: usize) -> bool
+    requires { (s.now.events ≤ events_most) × (e < events_most) }
+    ensures { result ≡ supported_in (rules_in s.now) e x }
+{
+    within(s.events, s.needs[e], x)
+}
+
 // Whether event e conflicts with no member of x, and x holds every cause of it.
 fn fits(s: &Sheet, x: u32, e: usize) -> bool
     requires { (s.now.events ≤ events_most) × (e < events_most) }
-    ensures { result ≡ (possible (rules_in s.now) e x && supported (rules_in s.now) e x) }
+    ensures { result ≡ (possible_in (rules_in s.now) e x && supported_in (rules_in s.now) e x) }
 {
-    apart(s.events, s.conflicts[e], x) && within(s.events, s.needs[e], x)
+    possible(s, x, e) && supported(s, x, e)
 }
 
 // Whether no further event can be added to x.

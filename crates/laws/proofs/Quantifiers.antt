@@ -48,10 +48,6 @@ pub and_true : (a : Bool) → (a && true) ≡ a
 and_true true = refl
 and_true false = refl
 
-and_assoc : (a b c : Bool) → ((a && b) && c) ≡ (a && (b && c))
-and_assoc true b c = refl
-and_assoc false b c = refl
-
 pub some_none : (n : ℕ) → some n (λ _. false) ≡ false
 unfolding some
 some_none zero = refl

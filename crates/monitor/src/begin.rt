@@ -12,12 +12,11 @@ impl Monitor {
         requires { Fit self × (self.kept < kept_most) × (self.total < total_most) }
         ensures { result ≡ opened_by self }
     {
-        let s = self.sheet;
         let kept = self.kept;
         let rows = self.rows;
         let before = window::row_before(self.carried, &rows, kept);
         self.sets[kept] = 0;
-        self.rows[kept] = rows::next_row(s, before, 0);
+        self.rows[kept] = rows::next_row(&self.sheet, before, 0);
         self.kept = kept + 1;
         self.total = self.total + 1;
         self

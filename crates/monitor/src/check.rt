@@ -14,8 +14,7 @@ impl Monitor {
         let kept = self.kept;
         if kept == 0 {
             if self.total == 0 {
-                let s = self.sheet;
-                return rows::next_row(s, self.carried, 0);
+                return rows::next_row(&self.sheet, self.carried, 0);
             }
             return self.carried;
         }

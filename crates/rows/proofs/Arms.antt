@@ -2,8 +2,8 @@
 -- Assumes nothing.
 use Prim.Native.Nat.{ℕ, zero, suc, ◌+◌, ◌*◌, ◌%◌, ◌^◌, ◌≤◌, ◌<◌}
 use mathlib.Core.Path.{◌≡◌, ap, ◌∙◌, subst}
-use mathlib.Core.Bool.{Bool, true, false, cond, ◌&&◌}
-use native.Mathlib.Nat.{one-mul, zero-mul, mod-eq_of_lt, lt_of_lt_of_le}
+use mathlib.Core.Bool.{Bool, true, cond, ◌&&◌}
+use native.Mathlib.Nat.{one-mul, mod-eq_of_lt, lt_of_lt_of_le}
 use native.Mathlib.Omega.{arith}
 use lib.Dec.{leb, ltb}
 use lib.ListN.{get_or}
@@ -71,6 +71,9 @@ module _ (s : Sheet) (n : ℕ) (f : NodeFits s n) where
   unfolding node_in_range node_of node_kind node_kinds
   since_operands e = both_of (ranged_as 7 e)
 
+-- what the code may ask of its operands, arm by arm
+pub ruleset operands = (event_left, possible_left, not_left, and_operands, or_operands, previous_left, since_operands)
+
 -- WHAT SOUND SAYS
 
 module _ (s : Sheet) (ok : sound s ≡ true) where
@@ -121,10 +124,9 @@ module _ (s : Sheet) (ok : sound s ≡ true) where
 
 -- A ROW GROWS
 
--- a truth shifted to its place
-pub shifted : (b : Bool) (n : ℕ) → n < word_bits → cond b 1 0 * 2 ^ n % 2 ^ word_bits ≡ cond b (2 ^ n) 0
-shifted true n l = ap (λ (x : ℕ). x % 2 ^ word_bits) (one-mul (2 ^ n)) ∙ mod-eq_of_lt (pow-lt l)
-shifted false n l = ap (λ (x : ℕ). x % 2 ^ word_bits) (zero-mul (2 ^ n))
+-- a bit alone
+pub one_shifted : (n : ℕ) → n < word_bits → 1 * 2 ^ n % 2 ^ word_bits ≡ 2 ^ n
+one_shifted n l = ap (λ (x : ℕ). x % 2 ^ word_bits) (one-mul (2 ^ n)) ∙ mod-eq_of_lt (pow-lt l)
 
 pub row_lt : (r : Rules) (before x n : ℕ) → row_to r before x n < 2 ^ n
 unfolding row_to

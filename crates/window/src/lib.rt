@@ -51,7 +51,7 @@ pub fn rows_from(
     let mut j = from;
     while j < kept {
         let before = row_before(carried, rows, j);
-        rows[j] = rows::next_row(s, before, sets[j]);
+        rows[j] = rows::next_row(&s, before, sets[j]);
         j += 1;
     }
 }
