@@ -87,7 +87,7 @@ pub fn restore(mut m: Monitor, bytes: &[u8]) -> Restored
         };
     }
     let mut rows = [0u64; limits::KEPT];
-    window::rows_from(s, carried, &sets, &mut rows, 0, kept);
+    window::rows_from(&s, carried, &sets, &mut rows, 0, kept);
     m.total = total;
     m.gone = gone;
     m.kept = kept;

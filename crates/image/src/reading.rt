@@ -125,6 +125,6 @@ pub fn is_unlawful(s: Sheet, carried: u64, sets: [u32; limits::KEPT], kept: usiz
 {
     let lawful = all_fine(s, sets, kept);
     let outside = beyond(s.nodes, carried);
-    let closed = (0 < kept) & window::is_closed(s, sets[0]);
+    let closed = (0 < kept) & events::closed(&s, sets[0]);
     !lawful | outside | closed
 }

@@ -5,16 +5,13 @@ use mathlib.Core.Path.{◌≡◌, refl}
 use mathlib.Core.Bool.{Bool, true, false, not, ◌||◌}
 use native.Mathlib.Omega.{arith}
 use lib.Dec.{eqb, leb, ltb}
-use lib.ListN.{get_or}
 use borrow.Author.Tests.{ltb-false, leb-false, eqb-true, not-false}
 use Rattle.laws.proofs.Quantifiers.{or_false}
 use Rattle.laws.proofs.Lawful.{passes}
 use Rattle.rows.proofs.Arms.{few_nodes}
 use Rattle.meaning.specs.Limits.{nodes_most, kept_most, total_most}
-use Rattle.meaning.specs.Sets.{apart, within}
-use Rattle.meaning.specs.Events.{possible, supported}
 use Rattle.sheet.specs.declared.Sheet.{Sheet}
-use Rattle.sheet.specs.Sound.{sound, rules_in}
+use Rattle.sheet.specs.Sound.{sound}
 use Rattle.monitor.specs.declared.Monitor.{Monitor}
 use Rattle.monitor.specs.Calls.{bad, opened, written, begin_fault_of, fault_in}
 use Rattle.monitor.specs.Fits.{Fit}
@@ -74,12 +71,3 @@ places m session e q =
       begun = ltb-false m.total session t.1;
       known = leb-false m.sheet.events e b.0;
     }
-
--- a stored sheet's own tests
-pub possible_in : (s : Sheet) (e x : ℕ) → possible (rules_in s) e x ≡ apart s.events (get_or s.conflicts e 0) x
-unfolding possible rules_in
-possible_in s e x = refl
-
-pub supported_in : (s : Sheet) (e x : ℕ) → supported (rules_in s) e x ≡ within s.events (get_or s.needs e 0) x
-unfolding supported rules_in
-supported_in s e x = refl

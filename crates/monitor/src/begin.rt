@@ -13,8 +13,7 @@ impl Monitor {
         ensures { result ≡ opened_by self }
     {
         let kept = self.kept;
-        let rows = self.rows;
-        let before = window::row_before(self.carried, &rows, kept);
+        let before = window::row_before(self.carried, &self.rows, kept);
         self.sets[kept] = 0;
         self.rows[kept] = rows::next_row(&self.sheet, before, 0);
         self.kept = kept + 1;

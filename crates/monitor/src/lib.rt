@@ -100,18 +100,11 @@ impl Monitor {
         requires { Fit self }
         ensures { result ≡ settled_by self }
     {
-        let s = self.sheet;
         let kept = self.kept;
-        let sets = self.sets;
-        let rows = self.rows;
-        let k = window::front_closed(s, sets, kept);
-        let before = window::row_before(self.carried, &rows, k);
-        let later = window::moved_up(sets, rows, k, kept);
-        let later_sets = later.sets;
-        let later_rows = later.rows;
+        let k = window::front_closed(&self.sheet, &self.sets, kept);
+        let before = window::row_before(self.carried, &self.rows, k);
+        window::moved_up(&mut self.sets, &mut self.rows, k, kept);
         self.carried = before;
-        self.sets = later_sets;
-        self.rows = later_rows;
         self.gone = self.gone + k as u32;
         self.kept = kept - k;
         self

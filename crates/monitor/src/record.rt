@@ -12,12 +12,11 @@ impl Monitor {
         requires { Fit self × (i < kept_most) × (e < events_most) }
         ensures { result ≡ written_by self i e }
     {
-        let s = self.sheet;
         let kept = self.kept;
         let mut sets = self.sets;
         let mut rows = self.rows;
         sets[i] = events::added(sets[i], e);
-        window::rows_from(s, self.carried, &sets, &mut rows, i, kept);
+        window::rows_from(&self.sheet, self.carried, &sets, &mut rows, i, kept);
         self.sets = sets;
         self.rows = rows;
         self
@@ -28,12 +27,10 @@ impl Monitor {
         requires { Fit self × (e < self.sheet.events) }
         ensures { result ≡ fault_at self x e }
     {
-        let s = self.sheet;
-        let n = s.events;
-        let shut = window::is_closed(s, x);
+        let shut = events::closed(&self.sheet, x);
         let there = events::has(x, e);
-        let clash = !events::apart(n, s.conflicts[e], x);
-        let lacks = !events::within(n, s.needs[e], x);
+        let clash = !events::possible(&self.sheet, x, e);
+        let lacks = !events::supported(&self.sheet, x, e);
         if shut {
             return 23;
         }

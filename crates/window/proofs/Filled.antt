@@ -2,11 +2,13 @@
 -- Assumes nothing.
 use Prim.Native.Nat.{ℕ, zero, suc, ◌+◌, ◌-◌, ◌≤◌, ◌<◌}
 use mathlib.Core.Path.{◌≡◌, refl, sym, ap, ap₂, ◌∙◌}
-use mathlib.Core.List.{List, [], ◌∷◌, ◌++◌}
+use mathlib.Core.List.{List, [], ◌∷◌, ◌++◌, append-nil}
 use native.Mathlib.Numerals.{add-one}
 use native.Mathlib.Omega.{arith}
-use lib.ListN.{length, get_or, set, take, drop, replicate, length-append, length-drop, length-set}
-use lib.Seq.{length-take-le, take_at, take-suc, take-length, drop-append-le, get_or-drop, set_at, set-append_left, set-append_seam, append_snoc}
+use borrow.Rule.Slice.PartMut.{put_mid}
+use lib.ListN.{length, get_or, set, take, drop, replicate, length-append, length-drop, length-set, drop_of_length-le}
+use lib.Seq.{length-take-le, take_at, take-suc, take-length, drop-append-le, set_at, set-append_left, set-append_seam, append_snoc}
+use Rattle.std.specs.List.{copy_within}
 use Rattle.meaning.specs.Limits.{kept_most}
 use Rattle.window.specs.Kept.{filled, moved}
 
@@ -29,10 +31,18 @@ pub placed_all : (l : List ℕ) (i : ℕ) → i ≡ length l → placing i l ≡
 unfolding filled
 placed_all l i e = rw (e, take-length l)
 
--- the same of what stands behind the first k
-pub moving_more : (k i : ℕ) (l : List ℕ) → k + i < length l → i < kept_most → set (placing i (drop k l)) i (get_or l (k + i) 0) ≡ placing (i + 1) (drop k l)
-moving_more k i l h m =
-    ap (set (placing i (drop k l)) i) (sym (get_or-drop k l i 0)) ∙ placing_more i (drop k l) (rw length-drop (omega arith)) m
+-- the kept behind the first k are copied to the front, and zeros put behind them
+pub moved_over : (k kept : ℕ) (l copied zeros : List ℕ) → k ≤ kept → kept ≤ kept_most → length l ≡ kept_most
+    → copied ≡ copy_within l k kept 0 → zeros ≡ replicate (kept_most - (kept - k)) 0
+    → put_mid (kept - k) (kept_most - (kept - k)) copied zeros ≡ moved k kept l
+unfolding moved
+moved_over k kept l copied zeros h few full p q =
+    let m = kept - k in
+    let up : List ℕ = take m (drop k l) in
+    let long : length up ≡ m = length-take-le m (drop k l) (rw length-drop (omega arith)) in
+    let front : take m copied ≡ up = ap (take m) p ∙ take_at up (drop (0 + m) l) m long in
+    let none : drop (kept_most - m) (drop m copied) ≡ [] = drop_of_length-le (drop m copied) {i = kept_most - m} (rw (length-drop, p, length-append, long, length-drop, full) (omega arith)) in
+    ap₂ ◌++◌ front (ap₂ ◌++◌ q none ∙ append-nil _)
 
 -- WHAT STANDS THERE
 

@@ -6,8 +6,8 @@ use mathlib.Core.Bool.{Bool, true, false, cond}
 use mathlib.Core.List.{List, [], ◌∷◌}
 use native.Mathlib.Numerals.{add-one}
 use native.Mathlib.Omega.{arith}
-use lib.ListN.{length, get_or, set, take, drop, length-take, drop_of_length-le}
-use lib.Seq.{length-take-le, get_or-take, drop-cons}
+use lib.ListN.{length, get_or, set, take, length-take}
+use Rattle.std.specs.List.{prefix_len}
 use Rattle.meaning.specs.Rules.{Rules}
 use Rattle.meaning.specs.Events.{closed}
 use Rattle.meaning.specs.Steps.{next_row}
@@ -40,28 +40,11 @@ module _ (r : Rules) (carried : ℕ) (sets : List ℕ) where
 
 -- THE FRONT RUN
 
-module _ (r : Rules) (sets : List ℕ) (kept : ℕ) (h : kept ≤ length sets) where
-  abbrev front : List ℕ
-  front = take kept sets
-
-  front_length : length front ≡ kept
-  front_length = length-take-le kept sets h
-
-  run_from : (k : ℕ) → k < kept → let_go r (drop k front) ≡ cond (closed r (get_or sets k 0)) (suc (let_go r (drop (suc k) front))) 0
-  unfolding let_go
-  run_from k l =
-      ap (let_go r) (drop-cons front k 0 (rw front_length l))
-      ∙ ap (λ (x : ℕ). cond (closed r x) (suc (let_go r (drop (suc k) front))) 0) (get_or-take kept sets k 0 l)
-
-  pub run_stops : (k : ℕ) → k < kept → closed r (get_or sets k 0) ≡ false → let_go r (drop k front) ≡ 0
-  run_stops k l e = run_from k l ∙ ap (λ (b : Bool). cond b (suc (let_go r (drop (suc k) front))) 0) e
-
-  pub run_goes_on : (k : ℕ) → k < kept → closed r (get_or sets k 0) ≡ true → let_go r (drop k front) ≡ suc (let_go r (drop (k + 1) front))
-  run_goes_on k l e = rw add-one (run_from k l ∙ ap (λ (b : Bool). cond b (suc (let_go r (drop (suc k) front))) 0) e)
-
-  pub run_ends : (k : ℕ) → kept ≤ k → let_go r (drop k front) ≡ 0
-  unfolding let_go
-  run_ends k l = ap (let_go r) (drop_of_length-le front {i = k} (rw front_length l))
+-- it is as long as the run of those that pass a test
+pub front_run : (r : Rules) (l : List ℕ) → prefix_len (closed r) l ≡ let_go r l
+unfolding let_go
+front_run r [] = refl
+front_run r (x ∷ l) = ap (λ (n : ℕ). cond (closed r x) n 0) (let e : 1 + prefix_len (closed r) l ≡ suc (prefix_len (closed r) l) = omega arith in e ∙ ap suc (front_run r l))
 
 -- no more are let go than there are
 pub front_le : (r : Rules) (l : List ℕ) → let_go r l ≤ length l

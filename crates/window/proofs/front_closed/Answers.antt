@@ -1,43 +1,28 @@
--- `window::front_closed` meets its contract. The loop's invariant: the sessions before k are closed, and the run goes on from k.
+-- `window::front_closed` meets its contract.
 -- Assumes nothing.
-use Rattle.std.proofs.Common.{rules}
-use Prim.Native.Nat.{◌≤◌}
-use mathlib.Core.Path.{◌≡◌, sym, ◌∙◌}
-use native.Mathlib.Omega.{arith}
-use lib.ListN.{length}
-use Rattle.meaning.specs.Limits.{kept_most}
+use Rattle.std.proofs.Common.{rules, ◌≤◌, take}
+use Rattle.std.proofs.iter.Serving.{serving}
+use Rattle.std.proofs.lemmas.Iterator.{YieldsList-from_slice}
+use Rattle.std.proofs.lemmas.Iterator.Consumers.{count_from_yields_List}
+use Rattle.std.proofs.lemmas.Iterator.Search.{YieldsList-from_take_while}
+use Rattle.std.proofs.lemmas.List.Folds.{length-prefix_len}
+use borrow.Author.Tests.{tests}
+use Rattle.meaning.specs.Limits.{events_most}
+use Rattle.meaning.specs.Events.{closed}
+use mathlib.Core.Path.{◌∙◌}
 use Rattle.sheet.specs.Sound.{rules_in}
-use Rattle.window.proofs.Moves.{run_stops, run_goes_on, run_ends}
+use Rattle.rows.proofs.Arms.{few_events}
+use Rattle.window.proofs.Moves.{front_run}
 use Rattle.window.proofs.front_closed.Goals as goal
 
-pub loop-k-init : goal.loop-k-init
-loop-k-init c = (omega arith, omega arith)
-
-pub is_closed-requires : goal.is_closed-requires
-is_closed-requires c = c.requires.0
-
-pub returns-then-not-is_closed : goal.returns-then-not-is_closed
-returns-then-not-is_closed c =
-    let z : length c.args.sets ≡ kept_most = search rules in
-    let h : c.args.kept ≤ length c.args.sets = (let p = c.requires.1 in omega arith) in
-    let e = run_stops (rules_in c.args.s) c.args.sets c.args.kept h c.loop-k.k c.loop-k-test.true
-    (sym c.is_closed.ensures ∙ c.if-not-is_closed.true) in
-    let i = c.loop-k.invariant.1 in
-    omega arith
-
-pub loop-k-preserved : goal.loop-k-preserved
-loop-k-preserved c =
-    let z : length c.args.sets ≡ kept_most = search rules in
-    let h : c.args.kept ≤ length c.args.sets = (let p = c.requires.1 in omega arith) in
-    let e = run_goes_on (rules_in c.args.s) c.args.sets c.args.kept h c.loop-k.k c.loop-k-test.true
-    (sym c.is_closed.ensures ∙ c.if-not-is_closed.false) in
-    let i = c.loop-k.invariant.1 in
-    (omega arith, omega arith)
+pub count-requires-clause-can : goal.count-requires-clause-can
+count-requires-clause-can c = let h : c.args.s.now.events ≤ events_most = few_events c.args.s.now c.requires.0 in grind (serving, h)
 
 pub returns : goal.returns
 returns c =
-    let z : length c.args.sets ≡ kept_most = search rules in
-    let h : c.args.kept ≤ length c.args.sets = (let p = c.requires.1 in omega arith) in
-    let e = run_ends (rules_in c.args.s) c.args.sets c.args.kept h c.loop-k.k c.loop-k-test.false in
-    let i = c.loop-k.invariant.1 in
-    omega arith
+    let r = rules_in c.args.s.now in
+    let front = take c.args.kept c.args.sets.now in
+    count_from_yields_List _ _ c.count.ensures.ran
+    (YieldsList-from_take_while _ (closed r) (YieldsList-from_slice front cc) c.take_while.ensures.closure c.take_while.ensures.done (λ x b q k. search (rules, tests)))
+    ∙ length-prefix_len (closed r) front
+    ∙ front_run r front

@@ -24,8 +24,8 @@ row_before-before-requires c =
     let h = c.requires.few in
     omega arith
 
-pub moved_up-later-requires : goal.moved_up-later-requires
-moved_up-later-requires c = (gone_few c.args.self _ c.front_closed-k.ensures, c.requires.few)
+pub moved_up-requires : goal.moved_up-requires
+moved_up-requires c = (gone_few c.args.self _ c.front_closed-k.ensures, c.requires.few)
 
 pub overflow_cast-self : goal.overflow_cast-self
 overflow_cast-self c =
@@ -45,4 +45,4 @@ overflow_sub-self c = gone_few c.args.self _ c.front_closed-k.ensures
 pub returns : goal.returns
 unfolding settled
 returns c =
-    rw (c.moved_up-later.ensures.0, c.moved_up-later.ensures.1, c.row_before-before.ensures, c.front_closed-k.ensures)
+    rw (c.moved_up.ensures.0, c.moved_up.ensures.1, c.row_before-before.ensures, c.front_closed-k.ensures)
