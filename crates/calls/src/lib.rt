@@ -6,10 +6,19 @@
 ghost use Rattle.std.specs.Prelude.{◌≤◌, OnErr};
 
 use answers::buffer::{Buffer, ROOM};
-use monitor::Monitor;
+use monitor::{Counts, Monitor, Verdict};
+use refusals::Refusal;
 use std::io;
 use std::io::Write;
 use text::{Hex, Number32};
+
+// The number of the refusal, or 0.
+fn number_of(answer: Result<(), Refusal>) -> u32 {
+    match answer {
+        Ok(()) => 0,
+        Err(refusal) => refusal.number(),
+    }
+}
 
 // Runs the command that the line's first word names.
 pub fn run<W: Write>(
@@ -52,7 +61,11 @@ fn begin<W: Write>(m: Monitor, to: &mut W, out: &mut Buffer, at: &mut usize) -> 
     ensures err { OnErr result (ROOM ≤ at.new) }
 {
     let a = m.begin();
-    answers::session(to, out, at, a.number, a.session)?;
+    let (number, session) = match a.answer {
+        Ok(session) => (0, session),
+        Err(refusal) => (refusal.number(), 0),
+    };
+    answers::session(to, out, at, number, session)?;
     Ok(a.monitor)
 }
 
@@ -75,7 +88,7 @@ fn record<W: Write>(
         return Ok(m);
     };
     let a = m.record(session, event);
-    answers::accepted(to, out, at, a.number)?;
+    answers::accepted(to, out, at, number_of(a.answer))?;
     Ok(a.monitor)
 }
 
@@ -83,18 +96,37 @@ fn record<W: Write>(
 fn check<W: Write>(m: Monitor, to: &mut W, out: &mut Buffer, at: &mut usize) -> io::Result<Monitor>
     ensures err { OnErr result (ROOM ≤ at.new) }
 {
-    let a = m.check();
-    answers::verdict(to, out, at, a.number, a.allow, a.row)?;
-    Ok(a.monitor)
+    let (number, verdict) = match m.check() {
+        Ok(verdict) => (0, verdict),
+        Err(refusal) => (
+            refusal.number(),
+            Verdict {
+                allow: false,
+                row: 0,
+            },
+        ),
+    };
+    answers::verdict(to, out, at, number, verdict.allow, verdict.row)?;
+    Ok(m)
 }
 
 // counts: total, let go, kept.
 fn counts<W: Write>(m: Monitor, to: &mut W, out: &mut Buffer, at: &mut usize) -> io::Result<Monitor>
     ensures err { OnErr result (ROOM ≤ at.new) }
 {
-    let a = m.counts();
-    answers::counts(to, out, at, a.number, a.total, a.gone, a.kept)?;
-    Ok(a.monitor)
+    let (number, told) = match m.counts() {
+        Ok(counts) => (0, counts),
+        Err(refusal) => (
+            refusal.number(),
+            Counts {
+                total: 0,
+                gone: 0,
+                kept: 0,
+            },
+        ),
+    };
+    answers::counts(to, out, at, number, told.total, told.gone, told.kept)?;
+    Ok(m)
 }
 
 // The longest buffer that `save` is lent.
@@ -125,9 +157,12 @@ fn save<W: Write>(
     }
     let k = n as usize;
     let mut buffer = [0xEEu8; LENT];
-    let a = image::save(m, &mut buffer[0..k]);
-    answers::image(to, out, at, a.number, a.length, front(&buffer, k))?;
-    Ok(a.monitor)
+    let (number, length) = match image::save(&m, &mut buffer[0..k]) {
+        Ok(length) => (0, length),
+        Err(refusal) => (refusal.number(), 0),
+    };
+    answers::image(to, out, at, number, length, front(&buffer, k))?;
+    Ok(m)
 }
 
 // restore HEX.
@@ -146,7 +181,7 @@ fn restore<W: Write>(
         return Ok(m);
     };
     let a = image::restore(m, text::held(&bytes, n));
-    answers::accepted(to, out, at, a.number)?;
+    answers::accepted(to, out, at, number_of(a.answer))?;
     Ok(a.monitor)
 }
 

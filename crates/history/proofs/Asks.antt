@@ -1,4 +1,4 @@
--- Check and counts: what the monitor of a history answers is what the history says, and the monitor stays as it is.
+-- Check and counts: what the monitor of a history answers is what the history says.
 -- Assumes nothing.
 use Prim.Native.Nat.{ℕ, suc, ◌+◌, ◌-◌, ◌≤◌}
 use mathlib.Core.Path.{◌≡◌, refl, sym, ap, ap₂, ◌∙◌}
@@ -12,6 +12,7 @@ use Rattle.meaning.specs.Sets.{mem}
 use Rattle.meaning.specs.Rules.{Rules}
 use Rattle.meaning.specs.Policy.{node_holds, row, or_one_empty, last_row, satisfies}
 use Rattle.meaning.specs.Steps.{next_row}
+use Rattle.meaning.specs.Refusals.{Answer, good}
 use Rattle.meaning.specs.History.{let_go, kept_of, check, counts}
 use Rattle.laws.proofs.SetLaws.{mem_set_of}
 use Rattle.sheet.specs.declared.Sheet.{Sheet}
@@ -20,11 +21,10 @@ use Rattle.rows.proofs.Arms.{some_nodes}
 use Rattle.window.specs.Kept.{filled, row_before}
 use Rattle.window.proofs.Moves.{later_before}
 use Rattle.monitor.specs.declared.Monitor.{Monitor}
-use Rattle.monitor.specs.declared.Checked.{Checked}
-use Rattle.monitor.specs.declared.Counted.{Counted}
+use Rattle.monitor.specs.declared.Verdict.{Verdict}
 use Rattle.monitor.specs.Calls.{bad, row_now, check_of, counts_of}
 use Rattle.history.specs.Made.{rows_of, standing, monitor_of, Lawful}
-use Rattle.history.specs.Answers.{unless, checked_told, counted_told}
+use Rattle.history.specs.Answers.{told, checked_told, counted_told}
 use Rattle.history.proofs.Loaded.{in_order_lem}
 use Rattle.history.proofs.Front.{kept_count}
 use Rattle.history.proofs.Rows.{before_is, row_next}
@@ -44,11 +44,11 @@ verdict_is r [] l = mem_set_of r.nodes (node_holds r (0 ∷ []) 1) (r.nodes - 1)
 verdict_is r (x ∷ h) l = mem_set_of r.nodes (node_holds r (x ∷ h) (suc (length h))) (r.nodes - 1) (omega arith)
 
 -- what a state that passes 20 answers
-asked : (m : Monitor) → bad m ≡ false → check_of m ≡ record { monitor = m; number = 0; allow = mem (m.sheet.nodes - 1) (row_now m); row = row_now m }
+asked : (m : Monitor) → bad m ≡ false → check_of m ≡ good (record { allow = mem (m.sheet.nodes - 1) (row_now m); row = row_now m })
 unfolding check_of
 asked m e = rw e
 
-counted_up : (m : Monitor) → bad m ≡ false → counts_of m ≡ record { monitor = m; number = 0; total = m.total; gone = m.gone; kept = m.kept }
+counted_up : (m : Monitor) → bad m ≡ false → counts_of m ≡ good (record { total = m.total; gone = m.gone; kept = m.kept })
 unfolding counts_of
 counted_up m e = rw e
 
@@ -84,33 +84,26 @@ module _ (s : Sheet) where
   row_is (x ∷ h) w = row_some (x ∷ h) (λ e. omega arith)
 
   module _ (h : List ℕ) (w : Lawful s h) where
-    check_is : check_of (monitor_of s h) ≡ record { monitor = monitor_of s h; number = 0; allow = satisfies r h; row = last_row r h }
+    check_is : check_of (monitor_of s h) ≡ good (record { allow = satisfies r h; row = last_row r h })
     unfolding monitor_of standing rules_in
     check_is =
         asked (monitor_of s h) (not_bad s h w)
         ∙ ap₂ said (ap (mem (r.nodes - 1)) (row_is h w) ∙ verdict_is r h (some_nodes s w.sounds)) (row_is h w)
       where
-        said : Bool → ℕ → Checked
-        said b x = record { monitor = monitor_of s h; number = 0; allow = b; row = x }
+        said : Bool → ℕ → Answer Verdict
+        said b x = good (record { allow = b; row = x })
 
     -- What check tells is what the history says: the verdict, and the row at the last session.
     pub checked_told_lem : checked_told (check_of (monitor_of s h)) ≡ (check r h).told
-    unfolding checked_told unless check
+    unfolding checked_told told check
     checked_told_lem = ap checked_told check_is
 
-    pub checked_stands : (check_of (monitor_of s h)).monitor ≡ monitor_of s h
-    checked_stands = ap (λ (a : Checked). a.monitor) check_is
-
     count_is :
-        counts_of (monitor_of s h)
-        ≡ record { monitor = monitor_of s h; number = 0; total = length h; gone = let_go r h; kept = length (kept_of r h) }
+        counts_of (monitor_of s h) ≡ good (record { total = length h; gone = let_go r h; kept = length (kept_of r h) })
     unfolding monitor_of standing kept_of
     count_is = counted_up (monitor_of s h) (not_bad s h w)
 
     -- What counts tells is what the history says: how many were begun, let go, and kept.
     pub counted_told_lem : counted_told (counts_of (monitor_of s h)) ≡ (counts r h).told
-    unfolding counted_told unless counts
+    unfolding counted_told told counts
     counted_told_lem = ap counted_told count_is
-
-    pub counted_stands : (counts_of (monitor_of s h)).monitor ≡ monitor_of s h
-    counted_stands = ap (λ (a : Counted). a.monitor) count_is

@@ -13,14 +13,14 @@ use borrow.Author.Tests.{lt-ltb, leb-false, eqb-true}
 use Rattle.meaning.specs.Rules.{Rules}
 use Rattle.meaning.specs.Events.{allowed}
 use Rattle.meaning.specs.Limits.{kept_most, total_most}
+use Rattle.meaning.specs.Refusals.{Answer, good}
 use Rattle.meaning.specs.History.{begun, refused, After, or_refused, let_go, kept_of, begin_fault, begin}
 use Rattle.laws.proofs.Lawful.{passes}
 use Rattle.sheet.specs.declared.Sheet.{Sheet}
 use Rattle.sheet.specs.Sound.{rules_in}
-use Rattle.monitor.specs.declared.Begun.{Begun}
-use Rattle.monitor.specs.Calls.{settled, opened, begin_fault_of, begin_of}
+use Rattle.monitor.specs.Calls.{Handed, settled, opened, begin_fault_of, begin_of}
 use Rattle.history.specs.Made.{standing, monitor_of, Lawful}
-use Rattle.history.specs.Answers.{unless, begun_told}
+use Rattle.history.specs.Answers.{told, begun_told}
 use Rattle.history.proofs.Loaded.{in_order_lem, empty_allowed}
 use Rattle.history.proofs.Lists.{all_more}
 use Rattle.window.proofs.Moves.{front_le}
@@ -74,11 +74,11 @@ module _ (s : Sheet) (h : List ℕ) (w : Lawful s h) where
       }
 
   -- what is answered, and what the history says, once it is known whether n is no fault
-  answer : Bool → ℕ → Begun
+  answer : Bool → ℕ → Handed ℕ
   answer b n =
       cond b
-      (record { monitor = settled (opened (monitor_of s h)); number = 0; session = length h + 1 })
-      (record { monitor = monitor_of s h; number = n; session = 0 })
+      (record { monitor = settled (opened (monitor_of s h)); answer = good (length h + 1) })
+      (record { monitor = monitor_of s h; answer = Answer.refused n })
 
   after : Bool → After
   after b = cond b (record { told = begun (length h + 1); history = longer }) (record { told = refused fault; history = h })
@@ -92,19 +92,19 @@ module _ (s : Sheet) (h : List ℕ) (w : Lawful s h) where
   after_is = refl
 
   -- What begin tells is what the history says.
-  pub begun_told_lem : begun_told (begin_of (monitor_of s h)) ≡ (begin r kept_most h).told
-  unfolding begun_told unless answer after
-  begun_told_lem = ap begun_told answer_is ∙ go (eqb fault 0) refl ∙ sym (ap (λ (a : After). a.told) after_is)
+  pub begun_told_lem : begun_told (begin_of (monitor_of s h)).answer ≡ (begin r kept_most h).told
+  unfolding begun_told told answer after
+  begun_told_lem = ap (λ (a : Handed ℕ). begun_told a.answer) answer_is ∙ go (eqb fault 0) ∙ sym (ap (λ (a : After). a.told) after_is)
     where
-      go : (b : Bool) → eqb fault 0 ≡ b → begun_told (answer b fault) ≡ (after b).told
-      go true e = refl
-      go false e = ap (λ (b : Bool). cond b (begun 0) (refused fault)) e
+      go : (b : Bool) → begun_told (answer b fault).answer ≡ (after b).told
+      go true = refl
+      go false = refl
 
   -- The monitor after it is that of the history after it.
   pub begun_stands : (begin_of (monitor_of s h)).monitor ≡ monitor_of s (begin r kept_most h).history
   unfolding answer after
   begun_stands =
-      ap (λ (a : Begun). a.monitor) answer_is ∙ go (eqb fault 0) refl ∙ sym (ap (λ (a : After). monitor_of s a.history) after_is)
+      ap (λ (a : Handed ℕ). a.monitor) answer_is ∙ go (eqb fault 0) refl ∙ sym (ap (λ (a : After). monitor_of s a.history) after_is)
     where
       go : (b : Bool) → eqb fault 0 ≡ b → (answer b fault).monitor ≡ monitor_of s (after b).history
       go true e = longer_stands (eqb-true fault 0 e)

@@ -9,30 +9,27 @@ use native.Mathlib.Omega.{arith}
 use lib.Dec.{ltb}
 use lib.ListN.{length, drop}
 use lib.Seq.{take-append_seam}
-use borrow.Author.Tests.{ne_eqb, ltb-true, ltb-false, le-leb, lt-leb}
+use borrow.Author.Tests.{ltb-true, ltb-false, le-leb, lt-leb}
 use Rattle.meaning.specs.Rules.{Rules}
 use Rattle.meaning.specs.Refusals.{Answer, good}
 use Rattle.meaning.specs.Sheet.{Sheet as Lists, sheet_of, rules_of}
 use Rattle.meaning.specs.Limits.{kept_most}
 use Rattle.meaning.specs.History.{After, restored, refused}
 use Rattle.meaning.specs.History
-use Rattle.meaning.specs.Image.{Image, image_bytes, image_of, save, misshapen, unlawful, said, read_image}
+use Rattle.meaning.specs.Image.{Image, image_bytes, image_of, save, read_image}
 use Rattle.laws.proofs.Accepted.{sheet_nonzero}
+use Rattle.refusals.specs.Numbers.{answer}
 use Rattle.sheet.specs.declared.Sheet.{Sheet}
 use Rattle.sheet.specs.declared.Loaded.{Loaded}
 use Rattle.sheet.specs.Loads.{stored, answered}
 use Rattle.sheet.specs.Sound.{rules_in}
 use Rattle.monitor.specs.declared.Monitor.{Monitor}
-use Rattle.monitor.specs.declared.Begun.{Begun}
-use Rattle.monitor.specs.declared.Recorded.{Recorded}
-use Rattle.monitor.specs.declared.Checked.{Checked}
-use Rattle.monitor.specs.declared.Counted.{Counted}
-use Rattle.monitor.specs.Calls.{bad, fresh, begin_of, record_of, check_of, counts_of}
-use Rattle.image.specs.declared.Saved.{Saved}
-use Rattle.image.specs.declared.Restored.{Restored}
+use Rattle.monitor.specs.declared.Verdict.{Verdict}
+use Rattle.monitor.specs.declared.Counts.{Counts}
+use Rattle.monitor.specs.Calls.{Handed, bad, fresh, begin_of, record_of, check_of, counts_of}
 use Rattle.image.specs.Images.{image_in, save_fault, save_of, buffer_after, restored_as, restore_of}
 use Rattle.history.specs.Made.{monitor_of, Lawful, Made}
-use Rattle.history.specs.Answers.{unless, begun_told, recorded_told, checked_told, counted_told, saved_told, restored_told}
+use Rattle.history.specs.Answers.{told, begun_told, recorded_told, checked_told, counted_told, saved_told, restored_told}
 use Rattle.history.specs.Sequences.{Call, begin, check, counts, anew, recording, saving, restoring, Heard, heard, left, silence, Moment, Past, nothing_yet}
 use Rattle.history.specs.Sequences.{◌among◌, Follows, after_saving, Returns, Refuses, Goes, Whole, Hands, wrote_too, SavedBefore, Answers, Run, Fresh, ByTheHistory, Demand3}
 use Rattle.history.proofs.Loaded.{rules_stored}
@@ -40,16 +37,6 @@ use Rattle.history.proofs.Standing.{not_bad}
 use Rattle.history.proofs.Images.{image_is, sheet_is}
 use Rattle.history.proofs.Room.{room_enough}
 use Rattle.history.proofs.Calls.{made_fresh, begin_tells, made_begun, record_tells, made_recorded, check_tells, made_checked, counts_tell, made_counted, save_tells, save_writes, restore_is}
-
--- no refusal of an image has the number 0
-image_nonzero : (r : Rules) (bytes : List ℕ) (n : ℕ) → read_image kept_most r bytes ≡ Answer.refused n → n ≡ 0 → ⊥
-unfolding read_image
-image_nonzero r bytes n e z = go (misshapen kept_most bytes) (unlawful r (said bytes)) e
-  where
-    go : (a b : Bool) → cond a (Answer.refused 42) (cond b (Answer.refused 43) (good (said bytes))) ≡ Answer.refused n → ⊥
-    go true b e = let y : ◌≡◌ {A = ℕ} 42 n = cc in omega arith
-    go false true e = let y : ◌≡◌ {A = ℕ} 43 n = cc in omega arith
-    go false false e = let y : ◌≡◌ {A = ℕ} 0 1 = cc in omega arith
 
 -- what the code of `load` and `new` promises of bytes that load
 fresh_of : (bytes : List ℕ) (m : Monitor) → Fresh bytes m → (l : Lists) × (sheet_of bytes ≡ good l) × (m ≡ fresh (stored l))
@@ -111,8 +98,8 @@ module _ (sheet : List ℕ) (l : Lists) (loads : sheet_of sheet ≡ good l) wher
     begin_agrees : (x : Heard) (n : Monitor) (v : List (List ℕ)) → Answers sheet r m w begin x n v → Agrees (History.begin r kept_most h) x n v
     unfolding Answers Hands
     begin_agrees x n v (a, l, (hx, hn), hv) = (
-      hx ∙ ap (λ (b : Begun). heard (begun_told b)) l ∙ ap heard (begin_tells s h m d.made),
-      goes_on _ (begin_of m).monitor n v (made_begun s h m d.made) (hn ∙ ap (λ (b : Begun). b.monitor) l) hv,
+      hx ∙ ap (λ (b : Handed ℕ). heard (begun_told b.answer)) l ∙ ap heard (begin_tells s h m d.made),
+      goes_on _ (begin_of m).monitor n v (made_begun s h m d.made) (hn ∙ ap (λ (b : Handed ℕ). b.monitor) l) hv,
     )
 
     record_agrees :
@@ -120,22 +107,22 @@ module _ (sheet : List ℕ) (l : Lists) (loads : sheet_of sheet ≡ good l) wher
         → Agrees (History.record_in r h session e) x n v
     unfolding Answers Hands
     record_agrees session e x n v (a, l, (hx, hn), hv) = (
-      hx ∙ ap (λ (b : Recorded). heard (recorded_told b)) l ∙ ap heard (record_tells s h m d.made session e),
-      goes_on _ (record_of m session e).monitor n v (made_recorded s h m d.made session e) (hn ∙ ap (λ (b : Recorded). b.monitor) l) hv,
+      hx ∙ ap (λ (b : Handed (Unit {0})). heard (recorded_told b.answer)) l ∙ ap heard (record_tells s h m d.made session e),
+      goes_on _ (record_of m session e).monitor n v (made_recorded s h m d.made session e) (hn ∙ ap (λ (b : Handed (Unit {0})). b.monitor) l) hv,
     )
 
     check_agrees : (x : Heard) (n : Monitor) (v : List (List ℕ)) → Answers sheet r m w check x n v → Agrees (History.check r h) x n v
     unfolding Answers Hands
-    check_agrees x n v (a, l, (hx, hn), hv) = (
-      hx ∙ ap (λ (b : Checked). heard (checked_told b)) l ∙ ap heard (check_tells s h m d.made),
-      goes_on _ (check_of m).monitor n v (made_checked s h m d.made) (hn ∙ ap (λ (b : Checked). b.monitor) l) hv,
+    check_agrees x n v (κs, lent, a, hm, l, (hx, hn), hv) = (
+      hx ∙ ap (λ (b : Answer Verdict). heard (checked_told b)) (l ∙ ap check_of hm) ∙ ap heard (check_tells s h m d.made),
+      goes_on _ m n v (made_checked s h m d.made) (hn ∙ hm) hv,
     )
 
     counts_agree : (x : Heard) (n : Monitor) (v : List (List ℕ)) → Answers sheet r m w counts x n v → Agrees (History.counts r h) x n v
     unfolding Answers Hands
-    counts_agree x n v (a, l, (hx, hn), hv) = (
-      hx ∙ ap (λ (b : Counted). heard (counted_told b)) l ∙ ap heard (counts_tell s h m d.made),
-      goes_on _ (counts_of m).monitor n v (made_counted s h m d.made) (hn ∙ ap (λ (b : Counted). b.monitor) l) hv,
+    counts_agree x n v (κs, lent, a, hm, l, (hx, hn), hv) = (
+      hx ∙ ap (λ (b : Answer Counts). heard (counted_told b)) (l ∙ ap counts_of hm) ∙ ap heard (counts_tell s h m d.made),
+      goes_on _ m n v (made_counted s h m d.made) (hn ∙ hm) hv,
     )
 
     anew_agrees :
@@ -186,19 +173,15 @@ module _ (sheet : List ℕ) (l : Lists) (loads : sheet_of sheet ≡ good l) wher
       saved_moment false e =
           rw (fault_is, e, image_made, le-leb (length bytes) (length buffer) (ltb-false (length buffer) (length bytes) e), take-append_seam bytes (drop (length bytes) buffer)) saved_here
 
-      saved_same : (save_of m buffer).monitor ≡ m
-      unfolding save_of
-      saved_same = refl
-
       save_agrees :
           (x : Heard) (n : Monitor) (v : List (List ℕ)) → Answers sheet r m w (saving buffer) x n v
           → (x ≡ left (save r h buffer).told (save r h buffer).buffer) × Stands (after_saving r p buffer) n v
       unfolding Answers Hands
-      save_agrees x n v (κs, lent, after, a, hb, (la, lb), (hx, hn), hv) =
-          let ea : a ≡ save_of m buffer = la ∙ ap (save_of m) hb in
-          let eb : after.now ≡ buffer_after m buffer = lb ∙ ap (buffer_after m) hb in
-          let en : n ≡ m = hn ∙ ap (λ (y : Saved). y.monitor) ea ∙ saved_same in
-          let ev : v ≡ wrote_too (save_of m buffer) (buffer_after m buffer) w = hv ∙ ap₂ (λ (y : Saved) (z : List ℕ). wrote_too y z w) ea eb in (
+      save_agrees x n v (κs, lent, out, after, a, hm, hb, (la, lb), (hx, hn), hv) =
+          let ea : answer a ≡ save_of m buffer = la ∙ ap₂ save_of hm hb in
+          let eb : after.now ≡ buffer_after m buffer = lb ∙ ap₂ buffer_after hm hb in
+          let en : n ≡ m = hn ∙ hm in
+          let ev : v ≡ wrote_too (save_of m buffer) (buffer_after m buffer) w = hv ∙ ap₂ (λ (y : Answer ℕ) (z : List ℕ). wrote_too y z w) ea eb in (
             hx
                 ∙ ap₂ left (ap saved_told ea ∙ save_tells s h m d.made buffer) (eb ∙ save_writes s h m d.made buffer),
             subst (λ (y : Monitor). Stands (after_saving r p buffer) y v) (sym en)
@@ -214,24 +197,24 @@ module _ (sheet : List ℕ) (l : Lists) (loads : sheet_of sheet ≡ good l) wher
       -- bytes of a moment make the monitor of its history
       returned :
           (k : Moment) → k among p.moments → k.written ≡ bytes
-          → restore_of m bytes ≡ record { monitor = monitor_of s k.history; number = 0 }
+          → restore_of m bytes ≡ record { monitor = monitor_of s k.history; answer = good tt }
       returned k l e =
           ap (restore_of m) (sym e ∙ (d.moments k l).1) ∙ restore_is s h m d.made k.history (d.moments k l).0
 
       -- bytes that are refused change nothing
-      refused_as : (i : ℕ) → read_image kept_most r bytes ≡ Answer.refused i → restore_of m bytes ≡ record { monitor = m; number = i }
+      refused_as : (i : ℕ) → read_image kept_most r bytes ≡ Answer.refused i → restore_of m bytes ≡ record { monitor = m; answer = Answer.refused i }
       unfolding restore_of restored_as
       refused_as i e = rw (fine, sheet_stays, e)
 
       module _ (x : Heard) (n : Monitor) (v : List (List ℕ)) (g : Answers sheet r m w (restoring bytes) x n v) where
         -- what the code promises, of these bytes
-        heard_is : x ≡ heard (restored_told (restore_of m bytes))
+        heard_is : x ≡ heard (restored_told (restore_of m bytes).answer)
         unfolding Answers Hands
-        heard_is = let (κs, lent, a, hb, la, (hx, hn), hv, hw) = g in hx ∙ ap (λ (b : Restored). heard (restored_told b)) (la ∙ ap (restore_of m) hb)
+        heard_is = let (κs, lent, a, hb, la, (hx, hn), hv, hw) = g in hx ∙ ap (λ (b : Handed (Unit {0})). heard (restored_told b.answer)) (la ∙ ap (restore_of m) hb)
 
         hands_is : n ≡ (restore_of m bytes).monitor
         unfolding Answers Hands
-        hands_is = let (κs, lent, a, hb, la, (hx, hn), hv, hw) = g in hn ∙ ap (λ (b : Restored). b.monitor) (la ∙ ap (restore_of m) hb)
+        hands_is = let (κs, lent, a, hb, la, (hx, hn), hv, hw) = g in hn ∙ ap (λ (b : Handed (Unit {0})). b.monitor) (la ∙ ap (restore_of m) hb)
 
         wrote_is : v ≡ w
         unfolding Answers Hands
@@ -244,19 +227,19 @@ module _ (sheet : List ℕ) (l : Lists) (loads : sheet_of sheet ≡ good l) wher
         back_to :
             (k : Moment) → k among p.moments → k.written ≡ bytes
             → (x ≡ heard restored) × Stands (record { history = k.history; moments = p.moments }) n v
-        unfolding restored_told unless
+        unfolding restored_told told
         back_to k l e = (
-          heard_is ∙ ap (λ (b : Restored). heard (restored_told b)) (returned k l e),
+          heard_is ∙ ap (λ (b : Handed (Unit {0})). heard (restored_told b.answer)) (returned k l e),
           goes_on k.history (monitor_of s k.history) n v (record { history = (d.moments k l).0; stands = refl })
-              (hands_is ∙ ap (λ (b : Restored). b.monitor) (returned k l e)) wrote_is,
+              (hands_is ∙ ap (λ (b : Handed (Unit {0})). b.monitor) (returned k l e)) wrote_is,
         )
 
         stays :
             (i : ℕ) → read_image kept_most r bytes ≡ Answer.refused i → (x ≡ heard (refused i)) × Stands p n v
-        unfolding restored_told unless
+        unfolding restored_told told
         stays i e = (
-          heard_is ∙ ap (λ (b : Restored). heard (restored_told b)) (refused_as i e) ∙ rw (ne_eqb i 0 (image_nonzero r bytes i e)),
-          goes_on h m n v d.made (hands_is ∙ ap (λ (b : Restored). b.monitor) (refused_as i e)) wrote_is,
+          heard_is ∙ ap (λ (b : Handed (Unit {0})). heard (restored_told b.answer)) (refused_as i e),
+          goes_on h m n v d.made (hands_is ∙ ap (λ (b : Handed (Unit {0})). b.monitor) (refused_as i e)) wrote_is,
         )
 
     -- EVERY CALL

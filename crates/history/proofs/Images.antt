@@ -17,7 +17,7 @@ use Rattle.meaning.specs.Lists.{all}
 use Rattle.meaning.specs.Rules.{Rules}
 use Rattle.meaning.specs.Events.{allowed, closed}
 use Rattle.meaning.specs.Policy.{row}
-use Rattle.meaning.specs.Refusals.{good}
+use Rattle.meaning.specs.Refusals.{Answer, good}
 use Rattle.meaning.specs.Limits.{events_most, kept_most, set_length, word_bits}
 use Rattle.meaning.specs.History.{saved, refused, let_go, kept_of, carried}
 use Rattle.meaning.specs.Image.{Saving, image_bytes, image_of, save, oldest_closed, unlawful, read_image}
@@ -29,7 +29,7 @@ use Rattle.monitor.specs.declared.Monitor.{Monitor}
 use Rattle.image.specs.Images.{image_in, save_fault, save_of, buffer_after, monitor_in, restored_as, restore_of}
 use Rattle.image.proofs.ReadBack.{Writable, said_again, formed_again}
 use Rattle.history.specs.Made.{rows_of, standing, monitor_of, Lawful}
-use Rattle.history.specs.Answers.{unless, saved_told}
+use Rattle.history.specs.Answers.{told, saved_told}
 use Rattle.window.proofs.Filled.{filled_take, filled_at}
 use Rattle.history.proofs.Loaded.{in_order_lem}
 use Rattle.history.proofs.Rows.{refreshed_rows}
@@ -63,8 +63,8 @@ module _ (n : ℕ) (bytes buffer : List ℕ) where
 
   same_told :
       (b : Bool)
-      → unless (cond b 41 0) (eqb (cond (eqb (cond b 41 0) 0) n 0) 0) (saved (cond (eqb (cond b 41 0) 0) n 0)) ≡ (ways b).told
-  unfolding unless
+      → saved_told (cond (eqb (cond b 41 0) 0) (good n) (Answer.refused (cond b 41 0))) ≡ (ways b).told
+  unfolding saved_told told
   same_told true = refl
   same_told false = refl
 
@@ -107,16 +107,12 @@ module _ (s : Sheet) (h : List ℕ) (w : Lawful s h) where
 
   -- What save tells is what the history says, and it leaves the same bytes in the buffer.
   pub saved_told_lem : (buffer : List ℕ) → saved_told (save_of m buffer) ≡ (save r h buffer).told
-  unfolding saved_told save_of save_fault save
+  unfolding save_of save_fault save
   saved_told_lem buffer = rw (not_bad s h w, image_is) (same_told (length bytes) (bytes ++ drop (length bytes) buffer) buffer (ltb (length buffer) (length bytes)))
 
   pub saved_buffer : (buffer : List ℕ) → buffer_after m buffer ≡ (save r h buffer).buffer
   unfolding buffer_after save_fault save
   saved_buffer buffer = rw (not_bad s h w, image_is) (same_buffer (length bytes) (bytes ++ drop (length bytes) buffer) buffer (ltb (length buffer) (length bytes)))
-
-  pub saved_stands : (buffer : List ℕ) → (save_of m buffer).monitor ≡ m
-  unfolding save_of
-  saved_stands buffer = refl
 
   -- THE IMAGE OF A HISTORY
 
@@ -186,6 +182,6 @@ module _ (s : Sheet) (h : List ℕ) (w : Lawful s h) where
   monitor_again = rw rows_again
 
   -- Restoring what was saved makes the monitor of the history again, whatever history the monitor handed in has.
-  pub restored_is : (k : List ℕ) → Lawful s k → restore_of (monitor_of s k) bytes ≡ record { monitor = m; number = 0 }
+  pub restored_is : (k : List ℕ) → Lawful s k → restore_of (monitor_of s k) bytes ≡ record { monitor = m; answer = good tt }
   unfolding restore_of restored_as
   restored_is k l = rw (not_bad s k l, sheet_is s k, read_again, monitor_again)

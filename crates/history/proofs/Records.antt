@@ -13,16 +13,16 @@ use Rattle.meaning.specs.Sets.{mem, added}
 use Rattle.meaning.specs.Rules.{Rules}
 use Rattle.meaning.specs.Events.{possible, supported, allowed, closed}
 use Rattle.meaning.specs.Policy.{session}
+use Rattle.meaning.specs.Refusals.{Answer, good}
 use Rattle.meaning.specs.History.{recorded, refused, After, or_refused, let_go, with_session, record_fault, record_in}
 use Rattle.laws.proofs.Quantifiers.{or_false}
 use Rattle.laws.proofs.Lawful.{passes}
 use Rattle.sheet.specs.declared.Sheet.{Sheet}
 use Rattle.sheet.specs.Sound.{rules_in}
-use Rattle.monitor.specs.declared.Recorded.{Recorded}
-use Rattle.monitor.specs.Calls.{settled, written, fault_at, fault_in, record_of}
+use Rattle.monitor.specs.Calls.{Handed, settled, written, fault_at, fault_in, record_fault_of, record_of}
 use Rattle.window.specs.Kept.{filled}
 use Rattle.history.specs.Made.{standing, monitor_of, Lawful}
-use Rattle.history.specs.Answers.{unless, recorded_told}
+use Rattle.history.specs.Answers.{told, recorded_told}
 use Rattle.history.proofs.Loaded.{in_order_lem, not_itself}
 use Rattle.window.proofs.Filled.{filled_at}
 use Rattle.history.proofs.Lists.{all_at, all_set}
@@ -163,14 +163,17 @@ module _ (s : Sheet) (h : List ℕ) (w : Lawful s h) (n e : ℕ) where
         }
 
   -- what is answered, and what the history says, once it is known whether k is no fault
-  answer : Bool → ℕ → Recorded
-  answer b k = cond b (record { monitor = settled (written (monitor_of s h) (n - g - 1) e); number = 0 }) (record { monitor = monitor_of s h; number = k })
+  answer : Bool → ℕ → Handed (Unit {0})
+  answer b k =
+      cond b
+      (record { monitor = settled (written (monitor_of s h) (n - g - 1) e); answer = good tt })
+      (record { monitor = monitor_of s h; answer = Answer.refused k })
 
   after : Bool → After
   after b = cond b (record { told = recorded; history = grown }) (record { told = refused fault; history = h })
 
   answer_is : record_of (monitor_of s h) n e ≡ answer (eqb fault 0) fault
-  unfolding record_of monitor_of standing answer
+  unfolding record_of record_fault_of monitor_of standing answer
   answer_is = ap₂ (λ (b : Bool) (m : ℕ). let k : ℕ = cond b 20 m in answer (eqb k 0) k) (not_bad s h w) fault_same
 
   after_is : record_in r h n e ≡ after (eqb fault 0)
@@ -178,19 +181,20 @@ module _ (s : Sheet) (h : List ℕ) (w : Lawful s h) (n e : ℕ) where
   after_is = refl
 
   -- What record tells is what the history says.
-  pub recorded_told_lem : recorded_told (record_of (monitor_of s h) n e) ≡ (record_in r h n e).told
-  unfolding recorded_told unless answer after
-  recorded_told_lem = ap recorded_told answer_is ∙ go (eqb fault 0) refl ∙ sym (ap (λ (a : After). a.told) after_is)
+  pub recorded_told_lem : recorded_told (record_of (monitor_of s h) n e).answer ≡ (record_in r h n e).told
+  unfolding recorded_told told answer after
+  recorded_told_lem =
+      ap (λ (a : Handed (Unit {0})). recorded_told a.answer) answer_is ∙ go (eqb fault 0) ∙ sym (ap (λ (a : After). a.told) after_is)
     where
-      go : (b : Bool) → eqb fault 0 ≡ b → recorded_told (answer b fault) ≡ (after b).told
-      go true q = refl
-      go false q = ap (λ (b : Bool). cond b recorded (refused fault)) q
+      go : (b : Bool) → recorded_told (answer b fault).answer ≡ (after b).told
+      go true = refl
+      go false = refl
 
   -- The monitor after it is that of the history after it.
   pub recorded_stands : (record_of (monitor_of s h) n e).monitor ≡ monitor_of s (record_in r h n e).history
   unfolding answer after
   recorded_stands =
-      ap (λ (a : Recorded). a.monitor) answer_is ∙ go (eqb fault 0) refl ∙ sym (ap (λ (a : After). monitor_of s a.history) after_is)
+      ap (λ (a : Handed (Unit {0})). a.monitor) answer_is ∙ go (eqb fault 0) refl ∙ sym (ap (λ (a : After). monitor_of s a.history) after_is)
     where
       go : (b : Bool) → eqb fault 0 ≡ b → (answer b fault).monitor ≡ monitor_of s (after b).history
       go true q = grown_stands (fits (eqb-true fault 0 q))

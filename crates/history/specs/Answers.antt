@@ -1,32 +1,29 @@
--- BELIEF. What the answers of calls tell, in the words of the written meaning: the number of the refusal, or what the call says when it is accepted.
+-- BELIEF. What the answers of calls tell, in the words of the written meaning: what the call says when it is accepted, or the number of the refusal.
 -- Assumes nothing.
-use Rattle.std.specs.Prelude.{ℕ, Bool, true, not, cond, ◌&&◌, eqb}
+use Rattle.std.specs.Prelude.{ℕ}
+use Rattle.meaning.specs.Refusals.{Answer, good}
 use Rattle.meaning.specs.History.{Told, begun, recorded, checked, counted, saved, restored, refused}
-use Rattle.monitor.specs.declared.Begun.{Begun}
-use Rattle.monitor.specs.declared.Recorded.{Recorded}
-use Rattle.monitor.specs.declared.Checked.{Checked}
-use Rattle.monitor.specs.declared.Counted.{Counted}
-use Rattle.image.specs.declared.Saved.{Saved}
-use Rattle.image.specs.declared.Restored.{Restored}
+use Rattle.monitor.specs.declared.Verdict.{Verdict}
+use Rattle.monitor.specs.declared.Counts.{Counts}
 
--- a number that is not 0, with every other number 0, is a refusal; any other answer is told as it stands
-unfoldable pub unless : ℕ → Bool → Told → Told
-unless n others t = cond (eqb n 0) t (cond others (refused n) t)
+unfoldable pub told : {A : Type 0} → (A → Told) → Answer A → Told
+told says (good a) = says a
+told says (Answer.refused n) = refused n
 
-unfoldable pub begun_told : Begun → Told
-begun_told a = unless a.number (eqb a.session 0) (begun a.session)
+unfoldable pub begun_told : Answer ℕ → Told
+begun_told a = told begun a
 
-unfoldable pub recorded_told : Recorded → Told
-recorded_told a = unless a.number true recorded
+unfoldable pub recorded_told : Answer (Unit {0}) → Told
+recorded_told a = told (λ x. recorded) a
 
-unfoldable pub checked_told : Checked → Told
-checked_told a = unless a.number (not a.allow && eqb a.row 0) (checked a.allow a.row)
+unfoldable pub checked_told : Answer Verdict → Told
+checked_told a = told (λ v. checked v.allow v.row) a
 
-unfoldable pub counted_told : Counted → Told
-counted_told a = unless a.number (eqb a.total 0 && eqb a.gone 0 && eqb a.kept 0) (counted a.total a.gone a.kept)
+unfoldable pub counted_told : Answer Counts → Told
+counted_told a = told (λ c. counted c.total c.gone c.kept) a
 
-unfoldable pub saved_told : Saved → Told
-saved_told a = unless a.number (eqb a.length 0) (saved a.length)
+unfoldable pub saved_told : Answer ℕ → Told
+saved_told a = told saved a
 
-unfoldable pub restored_told : Restored → Told
-restored_told a = unless a.number true restored
+unfoldable pub restored_told : Answer (Unit {0}) → Told
+restored_told a = told (λ x. restored) a

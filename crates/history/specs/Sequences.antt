@@ -1,6 +1,6 @@
 -- BELIEF. Demand 3: over any sequence of calls each answer is that of the history in which nothing is dropped.
 -- Assumes nothing.
-use Rattle.std.specs.Prelude.{ℕ, ◌+◌, ◌-◌, ◌≤◌, ◌<◌, ◌≡◌, true, false, cond, ◌⊎◌, ◌↔◌, List, [], ◌∷◌, eqb, leb, length, take, drop}
+use Rattle.std.specs.Prelude.{ℕ, ◌+◌, ◌-◌, ◌≤◌, ◌<◌, ◌≡◌, true, false, cond, ◌⊎◌, ◌↔◌, List, [], ◌∷◌, leb, length, take, drop, Result}
 use contract.Lifetimes.{Lfts}
 use Rattle.std.specs.Borrow.{Bor, MutBor}
 use Rattle.meaning.specs.Rules.{Rules}
@@ -12,20 +12,19 @@ use Rattle.meaning.specs.Policy.{session}
 use Rattle.meaning.specs.History.{Told, begun, restored, refused, After}
 use Rattle.meaning.specs.History
 use Rattle.meaning.specs.Image.{Image, image_bytes, image_of, save, read_image}
+use Rattle.refusals.specs.declared.Refusal.{Refusal}
+use Rattle.refusals.specs.Numbers.{answer}
 use Rattle.sheet.specs.declared.Loaded.{Loaded}
 use Rattle.sheet.proofs.load.Reads as load_reads
 use Rattle.monitor.specs.declared.Monitor.{Monitor}
-use Rattle.monitor.specs.declared.Begun.{Begun}
-use Rattle.monitor.specs.declared.Recorded.{Recorded}
-use Rattle.monitor.specs.declared.Checked.{Checked}
-use Rattle.monitor.specs.declared.Counted.{Counted}
+use Rattle.monitor.specs.declared.Outcome.{Outcome}
+use Rattle.monitor.specs.declared.Verdict.{Verdict}
+use Rattle.monitor.specs.declared.Counts.{Counts}
 use Rattle.monitor.proofs.Monitor.new.Reads as new_reads
 use Rattle.monitor.proofs.Monitor.begin.Reads as begin_reads
 use Rattle.monitor.proofs.Monitor.record.Reads as record_reads
 use Rattle.monitor.proofs.Monitor.check.Reads as check_reads
 use Rattle.monitor.proofs.Monitor.counts.Reads as counts_reads
-use Rattle.image.specs.declared.Saved.{Saved}
-use Rattle.image.specs.declared.Restored.{Restored}
 use Rattle.image.proofs.save.Reads as save_reads
 use Rattle.image.proofs.restore.Reads as restore_reads
 use Rattle.history.specs.Answers.{begun_told, recorded_told, checked_told, counted_told, saved_told, restored_told}
@@ -111,7 +110,7 @@ module _ (r : Rules) where
 
 -- BY THE CODE: what each call of it promises, as the prover reads the source (`Learnt`)
 
--- the code's answer is heard as this, and hands back the monitor
+-- the code's answer is heard as this, and the monitor that it hands back, or that it was lent, is the one after the call
 unfoldable pub Hands : Heard → Monitor → Heard → Monitor → Type 0
 Hands y n x m = (x ≡ y) × (m ≡ n)
 
@@ -123,8 +122,9 @@ Fresh bytes m =
     × new_reads.Learnt tt (loaded.sheet, tt) m (loaded.sheet, tt)
 
 -- the bytes that a save wrote, before those that earlier ones did
-unfoldable pub wrote_too : Saved → List ℕ → List (List ℕ) → List (List ℕ)
-wrote_too a buffer written = cond (eqb a.number 0) (take a.length buffer ∷ written) written
+unfoldable pub wrote_too : Answer ℕ → List ℕ → List (List ℕ) → List (List ℕ)
+wrote_too (good n) buffer written = take n buffer ∷ written
+wrote_too (Answer.refused k) buffer written = written
 
 -- of a sheet's bytes, and the rules that they say
 module _ (sheet : List ℕ) (r : Rules) where
@@ -134,20 +134,26 @@ module _ (sheet : List ℕ) (r : Rules) where
 
   -- a call on the monitor m, where earlier saves wrote w: what is heard, the monitor after it, what saves have written then
   unfoldable pub Answers : Monitor → List (List ℕ) → Call → Heard → Monitor → List (List ℕ) → Type 0
-  Answers m w begin x n v = (a : Begun) × begin_reads.Learnt tt (m, tt) a (m, tt) × Hands (heard (begun_told a)) a.monitor x n × (v ≡ w)
+  Answers m w begin x n v =
+      (a : Outcome ℕ) × begin_reads.Learnt tt (m, tt) a (m, tt) × Hands (heard (begun_told (answer a.answer))) a.monitor x n × (v ≡ w)
   Answers m w (recording s e) x n v =
-      (a : Recorded) × record_reads.Learnt tt (m, (s, (e, tt))) a (m, (s, (e, tt))) × Hands (heard (recorded_told a)) a.monitor x n × (v ≡ w)
-  Answers m w check x n v = (a : Checked) × check_reads.Learnt tt (m, tt) a (m, tt) × Hands (heard (checked_told a)) a.monitor x n × (v ≡ w)
-  Answers m w counts x n v = (a : Counted) × counts_reads.Learnt tt (m, tt) a (m, tt) × Hands (heard (counted_told a)) a.monitor x n × (v ≡ w)
+      (a : Outcome (Unit {0})) × record_reads.Learnt tt (m, (s, (e, tt))) a (m, (s, (e, tt)))
+      × Hands (heard (recorded_told (answer a.answer))) a.monitor x n × (v ≡ w)
+  Answers m w check x n v =
+      (κs : Lfts 1) × (lent : Bor Monitor) × (a : Result Verdict Refusal)
+      × (lent.now ≡ m) × check_reads.Learnt κs (lent, tt) a (lent, tt) × Hands (heard (checked_told (answer a))) lent.now x n × (v ≡ w)
+  Answers m w counts x n v =
+      (κs : Lfts 1) × (lent : Bor Monitor) × (a : Result Counts Refusal)
+      × (lent.now ≡ m) × counts_reads.Learnt κs (lent, tt) a (lent, tt) × Hands (heard (counted_told (answer a))) lent.now x n × (v ≡ w)
   Answers m w anew x n v = Fresh sheet n × (x ≡ silence) × (v ≡ w)
   Answers m w (saving buffer) x n v =
-      (κs : Lfts 1) × (lent after : MutBor (List ℕ)) × (a : Saved)
-      × (lent.now ≡ buffer) × save_reads.Learnt κs (m, (lent, tt)) a (m, (after, tt))
-      × Hands (left (saved_told a) after.now) a.monitor x n × (v ≡ wrote_too a after.now w)
+      (κs : Lfts 2) × (lent : Bor Monitor) × (out after : MutBor (List ℕ)) × (a : Result ℕ Refusal)
+      × (lent.now ≡ m) × (out.now ≡ buffer) × save_reads.Learnt κs (lent, (out, tt)) a (lent, (after, tt))
+      × Hands (left (saved_told (answer a)) after.now) lent.now x n × (v ≡ wrote_too (answer a) after.now w)
   Answers m w (restoring bytes) x n v =
-      (κs : Lfts 1) × (lent : Bor (List ℕ)) × (a : Restored)
+      (κs : Lfts 1) × (lent : Bor (List ℕ)) × (a : Outcome (Unit {0}))
       × (lent.now ≡ bytes) × restore_reads.Learnt κs (m, (lent, tt)) a (m, (lent, tt))
-      × Hands (heard (restored_told a)) a.monitor x n × (v ≡ w)
+      × Hands (heard (restored_told (answer a.answer))) a.monitor x n × (v ≡ w)
       × SavedBefore bytes w
 
   unfoldable pub Run : Monitor → List (List ℕ) → List Call → List Heard → Type 0

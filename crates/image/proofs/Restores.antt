@@ -85,11 +85,11 @@ module _ (s : List ℕ) (h : Header) (is : answer h ≡ front_of s) where
     carried_is = ap (λ (f : Front). f.carried) says
 
 module _ (m : Monitor) (s : List ℕ) where
-  pub restored_bad : bad m ≡ true → record { monitor = m; number = 20 } ≡ restore_of m s
+  pub restored_bad : bad m ≡ true → record { monitor = m; answer = refused 20 } ≡ restore_of m s
   unfolding restore_of restored_as
   restored_bad b = rw b
 
-  pub restored_misshapen : bad m ≡ false → misshapen kept_most s ≡ true → record { monitor = m; number = 42 } ≡ restore_of m s
+  pub restored_misshapen : bad m ≡ false → misshapen kept_most s ≡ true → record { monitor = m; answer = refused 42 } ≡ restore_of m s
   unfolding restore_of restored_as read_image
   restored_misshapen b e = rw (b, e)
 
@@ -99,7 +99,7 @@ module _ (m : Monitor) (s : List ℕ) where
     judged = rw (filled_take (said s).sets kept (sets_count s ∙ sym kept_is), carried_is)
 
     pub restored_unlawful :
-        unlawful_in m.sheet carried (take kept (filled (said s).sets)) ≡ true → record { monitor = m; number = 43 } ≡ restore_of m s
+        unlawful_in m.sheet carried (take kept (filled (said s).sets)) ≡ true → record { monitor = m; answer = refused 43 } ≡ restore_of m s
     unfolding restore_of restored_as read_image
     restored_unlawful u = rw (b, e, sym judged ∙ u)
 
@@ -117,7 +117,7 @@ module _ (m : Monitor) (s : List ℕ) where
                 sets = filled (said s).sets;
                 rows = refreshed (rules_in m.sheet) carried (filled (said s).sets) (replicate kept_most 0) 0 (kept - 0);
               };
-          number = 0;
+          answer = good tt;
         }
         ≡ restore_of m s
     unfolding restore_of restored_as read_image monitor_in

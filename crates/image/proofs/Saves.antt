@@ -10,6 +10,7 @@ use lib.ListN.{length, take, drop}
 use lib.Seq.{length-take-le, take-append-add}
 use borrow.Author.Tests.{lt-ltb, le-ltb}
 use Rattle.meaning.specs.Limits.{session_length}
+use Rattle.meaning.specs.Refusals.{good, refused}
 use Rattle.meaning.specs.Image.{session_bytes, header_bytes, image_bytes}
 use Rattle.monitor.specs.declared.Monitor.{Monitor}
 use Rattle.monitor.specs.Calls.{bad}
@@ -42,18 +43,18 @@ module _ (m : Monitor) (room : m.kept ≤ length m.sets) where
       ∙ length-take-le (image_length m.kept) (whole m.total m.gone m.carried m.sets) (rw (whole_length m.total m.gone m.carried m.sets) (omega arith))
 
   pub too_short : (out : List ℕ) → bad m ≡ false → length out < image_length m.kept
-      → (record { monitor = m; number = 41; length = 0 } ≡ save_of m out) × (out ≡ buffer_after m out)
+      → (refused 41 ≡ save_of m out) × (out ≡ buffer_after m out)
   unfolding save_of buffer_after save_fault
   too_short out b l = let t = lt-ltb (length out) (image_length m.kept) l in (rw (b, saved_length, t), rw (b, saved_length, t))
 
   pub saved_is :
       (out after : List ℕ) → bad m ≡ false → image_length m.kept ≤ length out
       → after ≡ take (image_length m.kept) (whole m.total m.gone m.carried m.sets) ++ drop (image_length m.kept) out
-      → (record { monitor = m; number = 0; length = image_length m.kept } ≡ save_of m out) × (after ≡ buffer_after m out)
+      → (good (image_length m.kept) ≡ save_of m out) × (after ≡ buffer_after m out)
   unfolding save_of buffer_after save_fault
   saved_is out after b l e =
       let t = le-ltb (length out) (image_length m.kept) l in (rw (b, saved_length, t), e ∙ rw (b, saved_length, t, saved_bytes))
 
-pub saved_bad : (m : Monitor) (out : List ℕ) → bad m ≡ true → (record { monitor = m; number = 20; length = 0 } ≡ save_of m out) × (out ≡ buffer_after m out)
+pub saved_bad : (m : Monitor) (out : List ℕ) → bad m ≡ true → (refused 20 ≡ save_of m out) × (out ≡ buffer_after m out)
 unfolding save_of buffer_after save_fault
 saved_bad m out b = (rw b, rw b)

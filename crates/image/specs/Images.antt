@@ -8,9 +8,7 @@ use Rattle.sheet.specs.declared.Sheet.{Sheet}
 use Rattle.sheet.specs.Sound.{rules_in}
 use Rattle.window.specs.Kept.{filled, refreshed}
 use Rattle.monitor.specs.declared.Monitor.{Monitor}
-use Rattle.monitor.specs.Calls.{bad}
-use Rattle.image.specs.declared.Saved.{Saved}
-use Rattle.image.specs.declared.Restored.{Restored}
+use Rattle.monitor.specs.Calls.{Handed, bad}
 
 -- SAVING
 
@@ -25,10 +23,11 @@ save_fault m buffer =
     else ltb (length buffer) (length (image_bytes (image_in m))) gives 41
     else 0
 
-unfoldable pub save_of : Monitor → List ℕ → Saved
+-- the image's length, or the number of the refusal
+unfoldable pub save_of : Monitor → List ℕ → Answer ℕ
 save_of m buffer =
     let fault = save_fault m buffer in
-    record { monitor = m; number = fault; length = cond (eqb fault 0) (length (image_bytes (image_in m))) 0 }
+    cond (eqb fault 0) (good (length (image_bytes (image_in m)))) (refused fault)
 
 -- the buffer afterwards: the image at its front, and nothing behind it changed
 unfoldable pub buffer_after : Monitor → List ℕ → List ℕ
@@ -52,9 +51,9 @@ monitor_in s i =
     }
 
 -- an image that is refused leaves the monitor handed in as it was
-unfoldable pub restored_as : Monitor → Answer Image → Restored
-restored_as m (good i) = record { monitor = monitor_in m.sheet i; number = 0 }
-restored_as m (refused n) = record { monitor = m; number = n }
+unfoldable pub restored_as : Monitor → Answer Image → Handed (Unit {0})
+restored_as m (good i) = record { monitor = monitor_in m.sheet i; answer = good tt }
+restored_as m (refused n) = record { monitor = m; answer = refused n }
 
-unfoldable pub restore_of : Monitor → List ℕ → Restored
+unfoldable pub restore_of : Monitor → List ℕ → Handed (Unit {0})
 restore_of m bytes = restored_as m (cond (bad m) (refused 20) (read_image kept_most (rules_in m.sheet) bytes))

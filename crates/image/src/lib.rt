@@ -2,9 +2,12 @@
 #![tactic(auto)]
 
 ghost use Rattle.std.specs.Prelude.{◌≡◌};
+ghost use Rattle.refusals.specs.Numbers.{answer};
+ghost use Rattle.monitor.specs.Calls.{outcome};
 ghost use Rattle.image.specs.Images.{save_of, buffer_after, restore_of};
 
-use monitor::Monitor;
+use monitor::{Monitor, Outcome};
+use refusals::Refusal;
 
 mod numbers;
 mod reading;
@@ -12,78 +15,51 @@ mod writing;
 
 use reading::Header;
 
-#[derive(Clone, Copy)]
-pub struct Saved {
-    pub monitor: Monitor,
-    pub number: u32,
-    pub length: usize,
-}
-
-#[derive(Clone, Copy)]
-pub struct Restored {
-    pub monitor: Monitor,
-    pub number: u32,
-}
-
 // Puts the image at the front of the buffer, and answers its length.
-pub fn save(monitor: Monitor, out: &mut [u8]) -> Saved
-    ensures { (result ≡ save_of monitor out.old) × (out.new ≡ buffer_after monitor out.old) }
+pub fn save(monitor: &Monitor, out: &mut [u8]) -> Result<usize, Refusal>
+    ensures { (answer result ≡ save_of monitor.now out.old) × (out.new ≡ buffer_after monitor.now out.old) }
 {
     if monitor.is_bad() {
-        return Saved {
-            monitor,
-            number: 20,
-            length: 0,
-        };
+        return Err(Refusal::BadState);
     }
-    let kept = monitor.kept;
-    let length = limits::HEADER + limits::SESSION * kept;
+    let length = limits::HEADER + limits::SESSION * monitor.kept;
     if out.len() < length {
-        return Saved {
-            monitor,
-            number: 41,
-            length: 0,
-        };
+        return Err(Refusal::ShortBuffer);
     }
-    let sets = monitor.sets;
     writing::put(
         monitor.total,
         monitor.gone,
         monitor.carried,
-        &sets,
+        &monitor.sets,
         out,
         length,
     );
-    Saved {
-        monitor,
-        number: 0,
-        length,
-    }
+    Ok(length)
 }
 
 // The monitor that the image's bytes say, judged by the sheet of the one handed in.
-pub fn restore(mut m: Monitor, bytes: &[u8]) -> Restored
-    ensures { result ≡ restore_of m bytes.now }
+pub fn restore(mut m: Monitor, bytes: &[u8]) -> Outcome<()>
+    ensures { outcome result ≡ restore_of m bytes.now }
 {
     if m.is_bad() {
-        return Restored {
+        return Outcome {
             monitor: m,
-            number: 20,
+            answer: Err(Refusal::BadState),
         };
     }
     let Header::Says(total, gone, carried) = reading::read_header(bytes) else {
-        return Restored {
+        return Outcome {
             monitor: m,
-            number: 42,
+            answer: Err(Refusal::MalformedImage),
         };
     };
     let kept = (bytes.len() - limits::HEADER) / limits::SESSION;
     let sets = reading::sets_in(bytes, kept);
     let s = m.sheet;
     if reading::is_unlawful(s, carried, sets, kept) {
-        return Restored {
+        return Outcome {
             monitor: m,
-            number: 43,
+            answer: Err(Refusal::UnlawfulImage),
         };
     }
     let mut rows = [0u64; limits::KEPT];
@@ -94,8 +70,8 @@ pub fn restore(mut m: Monitor, bytes: &[u8]) -> Restored
     m.carried = carried;
     m.sets = sets;
     m.rows = rows;
-    Restored {
+    Outcome {
         monitor: m,
-        number: 0,
+        answer: Ok(()),
     }
 }

@@ -5,15 +5,22 @@ use mathlib.Core.Path.{◌≡◌, refl}
 use mathlib.Core.Bool.{Bool, true, false, not, ◌||◌}
 use native.Mathlib.Omega.{arith}
 use lib.Dec.{eqb, leb, ltb}
-use borrow.Author.Tests.{ltb-false, leb-false, eqb-true, not-false}
+use lib.ListN.{get_or}
+use borrow.Author.Tests.{ltb-false, leb-false, eqb-true, ne_eqb, not-false}
 use Rattle.laws.proofs.Quantifiers.{or_false}
 use Rattle.laws.proofs.Lawful.{passes}
 use Rattle.rows.proofs.Arms.{few_nodes}
 use Rattle.meaning.specs.Limits.{nodes_most, kept_most, total_most}
+use Rattle.meaning.specs.Sets.{apart, within}
+use Rattle.meaning.specs.Events.{possible, supported}
+use Rattle.meaning.specs.Refusals.{refused}
+use Rattle.refusals.specs.declared.Refusal.{Refusal}
+use Rattle.refusals.specs.Numbers.{number}
+use Rattle.refusals.proofs.Alike.{not_zero}
 use Rattle.sheet.specs.declared.Sheet.{Sheet}
 use Rattle.sheet.specs.Sound.{sound}
 use Rattle.monitor.specs.declared.Monitor.{Monitor}
-use Rattle.monitor.specs.Calls.{bad, opened, written, begin_fault_of, fault_in}
+use Rattle.monitor.specs.Calls.{bad, opened, written, begin_fault_of, begin_of, fault_in, record_fault_of, record_of}
 use Rattle.monitor.specs.Fits.{Fit}
 
 -- what passes 20 is fit
@@ -27,6 +34,17 @@ fit_of m e =
       few = ltb-false kept_most m.kept q.0;
       counted = eqb-true (m.gone + m.kept) m.total (not-false (eqb (m.gone + m.kept) m.total) q.1);
     }
+
+-- A refusal hands back the monitor as it was.
+pub begin_refused : (m : Monitor) (r : Refusal) → number r ≡ begin_fault_of m → record { monitor = m; answer = refused (number r) } ≡ begin_of m
+unfolding begin_of
+begin_refused m r e = rw (← e, ne_eqb (number r) 0 (not_zero r))
+
+pub record_refused :
+    (m : Monitor) (session e : ℕ) (r : Refusal) → number r ≡ record_fault_of m session e
+    → record { monitor = m; answer = refused (number r) } ≡ record_of m session e
+unfolding record_of
+record_refused m session e r q = rw (← q, ne_eqb (number r) 0 (not_zero r))
 
 -- more nodes than the limit are not sound
 pub too_many_nodes : (s : Sheet) → nodes_most < s.nodes → sound s ≡ false
@@ -55,18 +73,21 @@ roomy m q =
 
 -- what no fault says of a session and an event
 pub record Places (m : Monitor) (session e : ℕ) : Type 0 where
+  pub fit : Fit m
   pub above : m.gone < session
   pub begun : session ≤ m.total
   pub known : e < m.sheet.events
 
-pub places : (m : Monitor) (session e : ℕ) → fault_in m session e ≡ 0 → Places m session e
-unfolding fault_in
+pub places : (m : Monitor) (session e : ℕ) → record_fault_of m session e ≡ 0 → Places m session e
+unfolding record_fault_of fault_in
 places m session e q =
-    let a = passes (eqb session 0 || ltb m.total session) 21 _ (λ z. omega arith) q in
+    let s = passes (bad m) 20 _ (λ z. omega arith) q in
+    let a = passes (eqb session 0 || ltb m.total session) 21 _ (λ z. omega arith) s.1 in
     let b = passes (leb m.sheet.events e) 22 _ (λ z. omega arith) a.1 in
     let c = passes (leb session m.gone) 23 _ (λ z. omega arith) b.1 in
     let t = or_false (eqb session 0) (ltb m.total session) a.0 in
     record {
+      fit = fit_of m s.0;
       above = leb-false session m.gone c.0;
       begun = ltb-false m.total session t.1;
       known = leb-false m.sheet.events e b.0;

@@ -1,20 +1,29 @@
 -- BELIEF. What each call answers, of any stored state at all: a total function of the state and the arguments.
 -- Assumes nothing.
-use Rattle.std.specs.Prelude.{ℕ, ◌+◌, ◌-◌, Bool, false, not, cond, ◌||◌, eqb, leb, ltb, get_or, set, take, replicate}
+use Rattle.std.specs.Prelude.{ℕ, ◌+◌, ◌-◌, Bool, not, cond, ◌||◌, eqb, leb, ltb, get_or, set, take, replicate}
 use Rattle.meaning.specs.Limits.{kept_most, total_most}
 use Rattle.meaning.specs.Sets.{mem, added}
 use Rattle.meaning.specs.Events.{possible, supported, closed}
 use Rattle.meaning.specs.Steps.{next_row}
 use Rattle.meaning.specs.History.{let_go}
-use Rattle.meaning.specs.Refusals.{◌gives◌else◌}
+use Rattle.meaning.specs.Refusals.{Answer, good, refused, ◌gives◌else◌}
+use Rattle.refusals.specs.Numbers.{answer}
 use Rattle.sheet.specs.declared.Sheet.{Sheet}
 use Rattle.sheet.specs.Sound.{sound, rules_in}
 use Rattle.window.specs.Kept.{row_before, refreshed, moved}
 use Rattle.monitor.specs.declared.Monitor.{Monitor}
-use Rattle.monitor.specs.declared.Begun.{Begun}
-use Rattle.monitor.specs.declared.Recorded.{Recorded}
-use Rattle.monitor.specs.declared.Checked.{Checked}
-use Rattle.monitor.specs.declared.Counted.{Counted}
+use Rattle.monitor.specs.declared.Outcome.{Outcome}
+use Rattle.monitor.specs.declared.Verdict.{Verdict}
+use Rattle.monitor.specs.declared.Counts.{Counts}
+
+-- what a call says that hands the monitor back: the monitor, and what was asked for or the number of the refusal
+pub record Handed (A : Type 0) : Type 0 where
+  pub monitor : Monitor
+  pub answer : Answer A
+
+-- the code's outcome in the paper's terms
+abbrev pub outcome : {A : Type 0} → Outcome A → Handed A
+outcome o = record { monitor = o.monitor; answer = answer o.answer }
 
 -- the empty monitor of a loaded sheet
 unfoldable pub fresh : Sheet → Monitor
@@ -58,12 +67,13 @@ begin_fault_of m =
     else leb kept_most m.kept gives 27
     else 0
 
-unfoldable pub begin_of : Monitor → Begun
+-- a refusal hands back the monitor as it was
+unfoldable pub begin_of : Monitor → Handed ℕ
 begin_of m =
     let fault = begin_fault_of m in
     cond (eqb fault 0)
-    (record { monitor = settled (opened m); number = 0; session = m.total + 1 })
-    (record { monitor = m; number = fault; session = 0 })
+    (record { monitor = settled (opened m); answer = good (m.total + 1) })
+    (record { monitor = m; answer = refused fault })
 
 -- the kept place i holds event e too, and the rows from there on are made anew
 unfoldable pub written : Monitor → ℕ → ℕ → Monitor
@@ -97,25 +107,29 @@ fault_in m session e =
     else leb session m.gone gives 23
     else fault_at m (get_or m.sets (session - m.gone - 1) 0) e
 
-unfoldable pub record_of : Monitor → ℕ → ℕ → Recorded
+unfoldable pub record_fault_of : Monitor → ℕ → ℕ → ℕ
+record_fault_of m session e = bad m gives 20 else fault_in m session e
+
+-- so here
+unfoldable pub record_of : Monitor → ℕ → ℕ → Handed (Unit {0})
 record_of m session e =
-    let fault = bad m gives 20 else fault_in m session e in
+    let fault = record_fault_of m session e in
     cond (eqb fault 0)
-    (record { monitor = settled (written m (session - m.gone - 1) e); number = 0 })
-    (record { monitor = m; number = fault })
+    (record { monitor = settled (written m (session - m.gone - 1) e); answer = good tt })
+    (record { monitor = m; answer = refused fault })
 
 -- the row at the last session: of the last kept, or the carried one, or with no session at all that of one empty session
 unfoldable pub row_now : Monitor → ℕ
 row_now m = cond (eqb m.kept 0) (cond (eqb m.total 0) (next_row (rules_in m.sheet) m.carried 0) m.carried) (get_or m.rows (m.kept - 1) 0)
 
-unfoldable pub check_of : Monitor → Checked
+unfoldable pub check_of : Monitor → Answer Verdict
 check_of m =
     cond (bad m)
-    (record { monitor = m; number = 20; allow = false; row = 0 })
-    (record { monitor = m; number = 0; allow = mem (m.sheet.nodes - 1) (row_now m); row = row_now m })
+    (refused 20)
+    (good (record { allow = mem (m.sheet.nodes - 1) (row_now m); row = row_now m }))
 
-unfoldable pub counts_of : Monitor → Counted
+unfoldable pub counts_of : Monitor → Answer Counts
 counts_of m =
     cond (bad m)
-    (record { monitor = m; number = 20; total = 0; gone = 0; kept = 0 })
-    (record { monitor = m; number = 0; total = m.total; gone = m.gone; kept = m.kept })
+    (refused 20)
+    (good (record { total = m.total; gone = m.gone; kept = m.kept }))

@@ -1,10 +1,12 @@
 // Beginning a session: 20, 28, 27.
 ghost use Rattle.std.specs.Prelude.{◌≡◌, ◌<◌};
 ghost use Rattle.meaning.specs.Limits.{kept_most, total_most};
-ghost use Rattle.monitor.specs.Calls.{opened as opened_by, begin_fault_of, begin_of};
+ghost use Rattle.refusals.specs.Numbers.{fault};
+ghost use Rattle.monitor.specs.Calls.{opened as opened_by, begin_fault_of, begin_of, outcome};
 ghost use Rattle.monitor.specs.Fits.{Fit};
 
-use crate::{Begun, Monitor};
+use crate::{Monitor, Outcome};
+use refusals::Refusal;
 
 impl Monitor {
     // One session more, empty.
@@ -21,43 +23,40 @@ impl Monitor {
         self
     }
 
-    // The number of the refusal, or 0.
-    fn begin_fault(self) -> u32
-        ensures { result ≡ begin_fault_of self }
+    // 20, 28, 27.
+    fn begin_fault(&self) -> Result<(), Refusal>
+        ensures { fault result ≡ begin_fault_of self.now }
     {
         let last = limits::TOTAL <= self.total;
         let full = Self::KEPT <= self.kept;
         if self.is_bad() {
-            return 20;
+            return Err(Refusal::BadState);
         }
         if last {
-            return 28;
+            return Err(Refusal::NoNumberLeft);
         }
         if full {
-            return 27;
+            return Err(Refusal::NoRoom);
         }
-        0
+        Ok(())
     }
 
     // Begins a session, and answers its number.
-    pub fn begin(mut self) -> Begun
-        ensures { result ≡ begin_of self }
+    pub fn begin(mut self) -> Outcome<u32>
+        ensures { outcome result ≡ begin_of self }
     {
-        let number = self.begin_fault();
-        if number != 0 {
-            return Begun {
+        if let Err(refusal) = self.begin_fault() {
+            return Outcome {
                 monitor: self,
-                number,
-                session: 0,
+                answer: Err(refusal),
             };
         }
-        let total = self.total;
+        let session = self.total + 1;
         self = self.opened();
         let m = self.settled();
-        Begun {
+        Outcome {
             monitor: m,
-            number: 0,
-            session: total + 1,
+            answer: Ok(session),
         }
     }
 }

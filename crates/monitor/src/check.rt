@@ -1,45 +1,36 @@
 // The verdict, and the row of truths at the last session.
 ghost use Rattle.std.specs.Prelude.{◌≡◌};
+ghost use Rattle.refusals.specs.Numbers.{answer};
 ghost use Rattle.monitor.specs.Calls.{row_now, check_of};
 ghost use Rattle.monitor.specs.Fits.{Fit};
 
-use crate::{Checked, Monitor};
+use crate::{Monitor, Verdict};
+use refusals::Refusal;
 
 impl Monitor {
     // The row at the last session.
-    fn row_now(self) -> u64
-        requires { Fit self }
-        ensures { result ≡ row_now self }
+    fn row_now(&self) -> u64
+        requires { Fit self.now }
+        ensures { result ≡ row_now self.now }
     {
-        let kept = self.kept;
-        if kept == 0 {
-            if self.total == 0 {
-                return rows::next_row(&self.sheet, self.carried, 0);
-            }
-            return self.carried;
+        if self.kept != 0 {
+            return self.rows[self.kept - 1];
         }
-        self.rows[kept - 1]
+        if self.total == 0 {
+            return rows::next_row(&self.sheet, self.carried, 0);
+        }
+        self.carried
     }
 
     // The verdict, and the row of truths at the last session.
-    pub fn check(self) -> Checked
-        ensures { result ≡ check_of self }
+    pub fn check(&self) -> Result<Verdict, Refusal>
+        ensures { answer result ≡ check_of self.now }
     {
         if self.is_bad() {
-            return Checked {
-                monitor: self,
-                number: 20,
-                allow: false,
-                row: 0,
-            };
+            return Err(Refusal::BadState);
         }
         let row = self.row_now();
         let allow = bits::bit(row, self.sheet.nodes - 1);
-        Checked {
-            monitor: self,
-            number: 0,
-            allow,
-            row,
-        }
+        Ok(Verdict { allow, row })
     }
 }

@@ -6,11 +6,12 @@ ghost use Rattle.std.specs.Prelude.{◌≡◌};
 ghost use Rattle.monitor.specs.Calls.{fresh, bad, settled as settled_by};
 ghost use Rattle.monitor.specs.Fits.{Fit};
 
+use refusals::Refusal;
 use sheet::Sheet;
 
 mod begin;
 mod check;
-mod counts;
+mod count;
 mod record;
 
 #[derive(Clone, Copy)]
@@ -26,31 +27,22 @@ pub struct Monitor {
     pub rows: [u64; Monitor::KEPT],
 }
 
+// What a call answers that may change the monitor: it hands the monitor back.
 #[derive(Clone, Copy)]
-pub struct Begun {
+pub struct Outcome<T> {
     pub monitor: Monitor,
-    pub number: u32,
-    pub session: u32,
+    pub answer: Result<T, Refusal>,
 }
 
+// The verdict, and the row of truths at the last session.
 #[derive(Clone, Copy)]
-pub struct Recorded {
-    pub monitor: Monitor,
-    pub number: u32,
-}
-
-#[derive(Clone, Copy)]
-pub struct Checked {
-    pub monitor: Monitor,
-    pub number: u32,
+pub struct Verdict {
     pub allow: bool,
     pub row: u64,
 }
 
 #[derive(Clone, Copy)]
-pub struct Counted {
-    pub monitor: Monitor,
-    pub number: u32,
+pub struct Counts {
     pub total: u32,
     pub gone: u32,
     pub kept: usize,
@@ -78,21 +70,13 @@ impl Monitor {
     }
 
     // Whether the state is one that 20 turns away.
-    pub fn is_bad(self) -> bool
-        ensures { result ≡ bad self }
+    pub fn is_bad(&self) -> bool
+        ensures { result ≡ bad self.now }
     {
-        let kept = self.kept;
-        if Self::KEPT < kept {
-            return true;
-        }
-        if bits::count(self.gone) + kept != bits::count(self.total) {
-            return true;
-        }
-        let s = self.sheet;
-        if Self::NODES < s.nodes {
-            return true;
-        }
-        !s.is_sound()
+        Self::KEPT < self.kept
+            || self.gone as usize + self.kept != self.total as usize
+            || Self::NODES < self.sheet.nodes
+            || !self.sheet.is_sound()
     }
 
     // The oldest kept session is let go while it is closed.

@@ -1,10 +1,12 @@
 // Recording an event: 20 to 26.
 ghost use Rattle.std.specs.Prelude.{◌≡◌, ◌<◌};
 ghost use Rattle.meaning.specs.Limits.{events_most, kept_most};
-ghost use Rattle.monitor.specs.Calls.{written as written_by, fault_at, fault_in, record_of};
+ghost use Rattle.refusals.specs.Numbers.{fault};
+ghost use Rattle.monitor.specs.Calls.{written as written_by, fault_at, fault_in, record_fault_of, record_of, outcome};
 ghost use Rattle.monitor.specs.Fits.{Fit};
 
-use crate::{Monitor, Recorded};
+use crate::{Monitor, Outcome};
+use refusals::Refusal;
 
 impl Monitor {
     // The kept place i holds event e too, and the rows from there on are made anew.
@@ -22,77 +24,75 @@ impl Monitor {
         self
     }
 
-    // 23 to 26, or 0: what event e meets in the set x of a kept session.
-    fn fault_at(self, x: u32, e: usize) -> u32
-        requires { Fit self × (e < self.sheet.events) }
-        ensures { result ≡ fault_at self x e }
+    // 23 to 26: what event e meets in the set x of a kept session.
+    fn fault_at(&self, x: u32, e: usize) -> Result<(), Refusal>
+        requires { Fit self.now × (e < self.now.sheet.events) }
+        ensures { fault result ≡ fault_at self.now x e }
     {
         let shut = events::closed(&self.sheet, x);
         let there = events::has(x, e);
         let clash = !events::possible(&self.sheet, x, e);
         let lacks = !events::supported(&self.sheet, x, e);
         if shut {
-            return 23;
+            return Err(Refusal::SessionClosed);
         }
         if there {
-            return 24;
+            return Err(Refusal::AlreadyThere);
         }
         if clash {
-            return 25;
+            return Err(Refusal::Conflict);
         }
         if lacks {
-            return 26;
+            return Err(Refusal::CauseMissing);
         }
-        0
+        Ok(())
     }
 
     // 21 to 26.
-    fn fault_in(self, session: u32, event: u32) -> u32
-        requires { Fit self }
-        ensures { result ≡ fault_in self session event }
+    fn fault_in(&self, session: u32, event: u32) -> Result<(), Refusal>
+        requires { Fit self.now }
+        ensures { fault result ≡ fault_in self.now session event }
     {
-        if session == 0 {
-            return 21;
+        if session == 0 || self.total < session {
+            return Err(Refusal::UnknownSession);
         }
-        if self.total < session {
-            return 21;
-        }
-        let e = bits::count(event);
+        let e = event as usize;
         if self.sheet.events <= e {
-            return 22;
+            return Err(Refusal::UnknownEvent);
         }
-        let gone = self.gone;
-        if session <= gone {
-            return 23;
+        if session <= self.gone {
+            return Err(Refusal::SessionClosed);
         }
-        let i = bits::count(session - gone - 1);
-        let x = self.sets[i];
-        self.fault_at(x, e)
+        let i = (session - self.gone - 1) as usize;
+        self.fault_at(self.sets[i], e)
+    }
+
+    // 20 to 26.
+    fn record_fault(&self, session: u32, event: u32) -> Result<(), Refusal>
+        ensures { fault result ≡ record_fault_of self.now session event }
+    {
+        if self.is_bad() {
+            return Err(Refusal::BadState);
+        }
+        self.fault_in(session, event)
     }
 
     // Records an event in a session, old or new.
-    pub fn record(mut self, session: u32, event: u32) -> Recorded
-        ensures { result ≡ record_of self session event }
+    pub fn record(mut self, session: u32, event: u32) -> Outcome<()>
+        ensures { outcome result ≡ record_of self session event }
     {
-        if self.is_bad() {
-            return Recorded {
+        if let Err(refusal) = self.record_fault(session, event) {
+            return Outcome {
                 monitor: self,
-                number: 20,
+                answer: Err(refusal),
             };
         }
-        let number = self.fault_in(session, event);
-        if number != 0 {
-            return Recorded {
-                monitor: self,
-                number,
-            };
-        }
-        let i = bits::count(session - self.gone - 1);
-        self = self.written(i, bits::count(event));
+        let i = (session - self.gone - 1) as usize;
+        self = self.written(i, event as usize);
         let m = self.settled();
-        Recorded {
+        Outcome {
             monitor: m,
-            number: 0,
+            answer: Ok(()),
         }
     }
 }

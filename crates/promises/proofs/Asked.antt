@@ -13,4 +13,4 @@ paths_ask_nothing κs sheet access path = (refl, refl, refl)
 
 pub monitors_ask_nothing : MonitorsAskNothing
 unfolding MonitorsAskNothing
-monitors_ask_nothing s m n e κs bytes lent = (refl, refl, refl, refl, refl, refl, refl, refl)
+monitors_ask_nothing s m n e κs both bytes lent out = (refl, refl, refl, refl, refl, refl, refl, refl)

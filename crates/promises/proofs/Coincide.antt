@@ -1,6 +1,12 @@
--- Any two answers allowed for one input coincide: each promise is an equation for the answer, and of a part for its place.
+-- Any two answers allowed for one input coincide: each promise is an equation for the answer, or for what it says in the paper's terms, and of a part for its place.
 -- Assumes nothing.
-use mathlib.Core.Path.{sym, ◌∙◌}
+use Rattle.std.specs.Prelude.{Result}
+use mathlib.Core.Path.{◌≡◌, sym, ap, ap₂, ◌∙◌}
+use Rattle.refusals.specs.declared.Refusal.{Refusal}
+use Rattle.refusals.proofs.Alike.{same_answer}
+use Rattle.monitor.specs.declared.Monitor.{Monitor}
+use Rattle.monitor.specs.declared.Outcome.{Outcome}
+use Rattle.monitor.specs.Calls.{Handed, outcome}
 use Rattle.promises.specs.Coincide.{LoadOne, EmptyOne, IsSoundOne, EventOfOne, RootOfOne, RestOfOne, NewOne, IsBadOne, BeginOne, RecordOne, CheckOne, CountsOne, SaveOne, RestoreOne}
 
 -- SHEETS
@@ -33,36 +39,44 @@ rest_of_one κs sheet access path a b p q = (p.0 ∙ sym q.0, p.1.block ∙ sym 
 
 -- THE MONITOR
 
+-- two outcomes that say the same are the same
+same_outcome : {A : Type 0} (a b : Outcome A) → outcome a ≡ outcome b → a ≡ b
+same_outcome {A} a b e =
+    ap₂ made (ap (λ (h : Handed A). h.monitor) e) (same_answer a.answer b.answer (ap (λ (h : Handed A). h.answer) e))
+  where
+    made : Monitor → Result A Refusal → Outcome A
+    made m x = record { monitor = m; answer = x }
+
 pub new_one : NewOne
 unfolding NewOne
 new_one s a b p q = p ∙ sym q
 
 pub is_bad_one : IsBadOne
 unfolding IsBadOne
-is_bad_one m a b p q = p ∙ sym q
+is_bad_one κs m a b p q = p ∙ sym q
 
 pub begin_one : BeginOne
 unfolding BeginOne
-begin_one m a b p q = p ∙ sym q
+begin_one m a b p q = same_outcome a b (p ∙ sym q)
 
 pub record_one : RecordOne
 unfolding RecordOne
-record_one m s e a b p q = p ∙ sym q
+record_one m s e a b p q = same_outcome a b (p ∙ sym q)
 
 pub check_one : CheckOne
 unfolding CheckOne
-check_one m a b p q = p ∙ sym q
+check_one κs m a b p q = same_answer a b (p ∙ sym q)
 
 pub counts_one : CountsOne
 unfolding CountsOne
-counts_one m a b p q = p ∙ sym q
+counts_one κs m a b p q = same_answer a b (p ∙ sym q)
 
 -- IMAGES
 
 pub save_one : SaveOne
 unfolding SaveOne
-save_one m κs lent a b left-a left-b p q = (p.0 ∙ sym q.0, p.1 ∙ sym q.1)
+save_one κs m lent a b left-a left-b p q = (same_answer a b (p.0 ∙ sym q.0), p.1 ∙ sym q.1)
 
 pub restore_one : RestoreOne
 unfolding RestoreOne
-restore_one m κs bytes a b p q = p ∙ sym q
+restore_one m κs bytes a b p q = same_outcome a b (p ∙ sym q)

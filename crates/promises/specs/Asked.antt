@@ -36,12 +36,12 @@ PathsAskNothing =
 
 unfoldable pub MonitorsAskNothing : Type 1
 MonitorsAskNothing =
-    (s : Sheet) (m : Monitor) (n e : ℕ) (κs : Lfts 1) (bytes : Bor (List ℕ)) (lent : MutBor (List ℕ)) →
+    (s : Sheet) (m : Monitor) (n e : ℕ) (κs : Lfts 1) (both : Lfts 2) (bytes : Bor (List ℕ)) (lent : Bor Monitor) (out : MutBor (List ℕ)) →
     (new_reads.Asked tt (s, tt) ≡ Unit {0})
-    × (is_bad_reads.Asked tt (m, tt) ≡ Unit {0})
+    × (is_bad_reads.Asked κs (lent, tt) ≡ Unit {0})
     × (begin_reads.Asked tt (m, tt) ≡ Unit {0})
     × (record_reads.Asked tt (m, (n, (e, tt))) ≡ Unit {0})
-    × (check_reads.Asked tt (m, tt) ≡ Unit {0})
-    × (counts_reads.Asked tt (m, tt) ≡ Unit {0})
-    × (save_reads.Asked κs (m, (lent, tt)) ≡ Unit {0})
+    × (check_reads.Asked κs (lent, tt) ≡ Unit {0})
+    × (counts_reads.Asked κs (lent, tt) ≡ Unit {0})
+    × (save_reads.Asked both (lent, (out, tt)) ≡ Unit {0})
     × (restore_reads.Asked κs (m, (bytes, tt)) ≡ Unit {0})

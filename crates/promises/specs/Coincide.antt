@@ -2,9 +2,10 @@
 -- the source: what went in, the answer, what went in as it is afterwards). Where a buffer is lent, its final content too. A part of lent bytes
 -- coincides with another in its bytes and in its place.
 -- Assumes nothing.
-use Rattle.std.specs.Prelude.{ℕ, ◌≡◌, Bool, List}
+use Rattle.std.specs.Prelude.{ℕ, ◌≡◌, Bool, List, Result}
 use contract.Lifetimes.{Lfts}
 use Rattle.std.specs.Borrow.{Bor, MutBor}
+use Rattle.refusals.specs.declared.Refusal.{Refusal}
 use Rattle.sheet.specs.declared.Sheet.{Sheet}
 use Rattle.sheet.specs.declared.Loaded.{Loaded}
 use Rattle.sheet.proofs.load.Reads as load_reads
@@ -15,18 +16,15 @@ use Rattle.path.proofs.event_of.Reads as event_of_reads
 use Rattle.path.proofs.root_of.Reads as root_of_reads
 use Rattle.path.proofs.rest_of.Reads as rest_of_reads
 use Rattle.monitor.specs.declared.Monitor.{Monitor}
-use Rattle.monitor.specs.declared.Begun.{Begun}
-use Rattle.monitor.specs.declared.Recorded.{Recorded}
-use Rattle.monitor.specs.declared.Checked.{Checked}
-use Rattle.monitor.specs.declared.Counted.{Counted}
+use Rattle.monitor.specs.declared.Outcome.{Outcome}
+use Rattle.monitor.specs.declared.Verdict.{Verdict}
+use Rattle.monitor.specs.declared.Counts.{Counts}
 use Rattle.monitor.proofs.Monitor.new.Reads as new_reads
 use Rattle.monitor.proofs.Monitor.is_bad.Reads as is_bad_reads
 use Rattle.monitor.proofs.Monitor.begin.Reads as begin_reads
 use Rattle.monitor.proofs.Monitor.record.Reads as record_reads
 use Rattle.monitor.proofs.Monitor.check.Reads as check_reads
 use Rattle.monitor.proofs.Monitor.counts.Reads as counts_reads
-use Rattle.image.specs.declared.Saved.{Saved}
-use Rattle.image.specs.declared.Restored.{Restored}
 use Rattle.image.proofs.save.Reads as save_reads
 use Rattle.image.proofs.restore.Reads as restore_reads
 
@@ -76,24 +74,28 @@ unfoldable pub NewOne : Type 0
 NewOne = (s : Sheet) → One (λ (a : Monitor). new_reads.Learnt tt (s, tt) a (s, tt))
 
 unfoldable pub IsBadOne : Type 0
-IsBadOne = (m : Monitor) → One (λ (a : Bool). is_bad_reads.Learnt tt (m, tt) a (m, tt))
+IsBadOne = (κs : Lfts 1) (m : Bor Monitor) → One (λ (a : Bool). is_bad_reads.Learnt κs (m, tt) a (m, tt))
 
 unfoldable pub BeginOne : Type 0
-BeginOne = (m : Monitor) → One (λ (a : Begun). begin_reads.Learnt tt (m, tt) a (m, tt))
+BeginOne = (m : Monitor) → One (λ (a : Outcome ℕ). begin_reads.Learnt tt (m, tt) a (m, tt))
 
 unfoldable pub RecordOne : Type 0
-RecordOne = (m : Monitor) (s e : ℕ) → One (λ (a : Recorded). record_reads.Learnt tt (m, (s, (e, tt))) a (m, (s, (e, tt))))
+RecordOne =
+    (m : Monitor) (s e : ℕ) → One (λ (a : Outcome (Unit {0})). record_reads.Learnt tt (m, (s, (e, tt))) a (m, (s, (e, tt))))
 
 unfoldable pub CheckOne : Type 0
-CheckOne = (m : Monitor) → One (λ (a : Checked). check_reads.Learnt tt (m, tt) a (m, tt))
+CheckOne = (κs : Lfts 1) (m : Bor Monitor) → One (λ (a : Result Verdict Refusal). check_reads.Learnt κs (m, tt) a (m, tt))
 
 unfoldable pub CountsOne : Type 0
-CountsOne = (m : Monitor) → One (λ (a : Counted). counts_reads.Learnt tt (m, tt) a (m, tt))
+CountsOne = (κs : Lfts 1) (m : Bor Monitor) → One (λ (a : Result Counts Refusal). counts_reads.Learnt κs (m, tt) a (m, tt))
 
 -- IMAGES
 
 unfoldable pub SaveOne : Type 0
-SaveOne = (m : Monitor) (κs : Lfts 1) (lent : MutBor (List ℕ)) → OneLeft (λ (a : Saved) (left : MutBor (List ℕ)). save_reads.Learnt κs (m, (lent, tt)) a (m, (left, tt)))
+SaveOne =
+    (κs : Lfts 2) (m : Bor Monitor) (lent : MutBor (List ℕ))
+    → OneLeft (λ (a : Result ℕ Refusal) (left : MutBor (List ℕ)). save_reads.Learnt κs (m, (lent, tt)) a (m, (left, tt)))
 
 unfoldable pub RestoreOne : Type 0
-RestoreOne = (m : Monitor) (κs : Lfts 1) (bytes : Bor (List ℕ)) → One (λ (a : Restored). restore_reads.Learnt κs (m, (bytes, tt)) a (m, (bytes, tt)))
+RestoreOne =
+    (m : Monitor) (κs : Lfts 1) (bytes : Bor (List ℕ)) → One (λ (a : Outcome (Unit {0})). restore_reads.Learnt κs (m, (bytes, tt)) a (m, (bytes, tt)))

@@ -12,31 +12,31 @@ use Rattle.image.proofs.Saves.{saved_bad, too_short, saved_is}
 use Rattle.image.proofs.save.Goals as goal
 
 pub returns-then-is_bad : goal.returns-then-is_bad
-returns-then-is_bad c = saved_bad c.args.monitor c.args.out.now (sym c.is_bad.ensures ∙ c.if-is_bad.true)
+returns-then-is_bad c = saved_bad c.args.monitor.now c.args.out.now (sym c.is_bad.ensures ∙ c.if-is_bad.true)
 
 pub overflow_mul-length : goal.overflow_mul-length
-overflow_mul-length c = let q : bad c.args.monitor ≡ false = sym c.is_bad.ensures ∙ c.if-is_bad.false in let f = (fit_of c.args.monitor q).few in omega arith
+overflow_mul-length c = let q : bad c.args.monitor.now ≡ false = sym c.is_bad.ensures ∙ c.if-is_bad.false in let f = (fit_of c.args.monitor.now q).few in omega arith
 
 pub overflow_add-length : goal.overflow_add-length
-overflow_add-length c = let q : bad c.args.monitor ≡ false = sym c.is_bad.ensures ∙ c.if-is_bad.false in let f = (fit_of c.args.monitor q).few in omega arith
+overflow_add-length c = let q : bad c.args.monitor.now ≡ false = sym c.is_bad.ensures ∙ c.if-is_bad.false in let f = (fit_of c.args.monitor.now q).few in omega arith
 
 pub returns-then-out-length : goal.returns-then-out-length
 returns-then-out-length c =
-    let q : bad c.args.monitor ≡ false = sym c.is_bad.ensures ∙ c.if-is_bad.false in
-    let f = (fit_of c.args.monitor q).few in
-    let z : length c.args.monitor.sets ≡ kept_most = search rules in
-    too_short c.args.monitor (omega arith) c.args.out.now q c.if-out-length.true
+    let q : bad c.args.monitor.now ≡ false = sym c.is_bad.ensures ∙ c.if-is_bad.false in
+    let f = (fit_of c.args.monitor.now q).few in
+    let z : length c.args.monitor.now.sets ≡ kept_most = search rules in
+    too_short c.args.monitor.now (omega arith) c.args.out.now q c.if-out-length.true
 
 pub put-requires : goal.put-requires
 put-requires c =
-    let q : bad c.args.monitor ≡ false = sym c.is_bad.ensures ∙ c.if-is_bad.false in
-    let f = (fit_of c.args.monitor q).few in
-    let z : length c.args.monitor.sets ≡ kept_most = search rules in
+    let q : bad c.args.monitor.now ≡ false = sym c.is_bad.ensures ∙ c.if-is_bad.false in
+    let f = (fit_of c.args.monitor.now q).few in
+    let z : length c.args.monitor.now.sets ≡ kept_most = search rules in
     (omega arith, c.if-out-length.false, z)
 
 pub returns : goal.returns
 returns c =
-    let q : bad c.args.monitor ≡ false = sym c.is_bad.ensures ∙ c.if-is_bad.false in
-    let f = (fit_of c.args.monitor q).few in
-    let z : length c.args.monitor.sets ≡ kept_most = search rules in
-    saved_is c.args.monitor (omega arith) c.args.out.now _ q c.if-out-length.false c.put.ensures
+    let q : bad c.args.monitor.now ≡ false = sym c.is_bad.ensures ∙ c.if-is_bad.false in
+    let f = (fit_of c.args.monitor.now q).few in
+    let z : length c.args.monitor.now.sets ≡ kept_most = search rules in
+    saved_is c.args.monitor.now (omega arith) c.args.out.now _ q c.if-out-length.false c.put.ensures

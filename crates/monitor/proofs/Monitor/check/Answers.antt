@@ -10,23 +10,23 @@ use Rattle.monitor.proofs.Monitor.check.Goals as goal
 
 pub returns-then-is_bad : goal.returns-then-is_bad
 unfolding check_of
-returns-then-is_bad c = let q : bad c.args.self ≡ true = sym c.is_bad.ensures ∙ c.if-is_bad.true in rw q
+returns-then-is_bad c = let q : bad c.args.self.now ≡ true = sym c.is_bad.ensures ∙ c.if-is_bad.true in rw q
 
 pub row_now-row-requires : goal.row_now-row-requires
-row_now-row-requires c = fit_of c.args.self (sym c.is_bad.ensures ∙ c.if-is_bad.false)
+row_now-row-requires c = fit_of c.args.self.now (sym c.is_bad.ensures ∙ c.if-is_bad.false)
 
 pub overflow_sub-self : goal.overflow_sub-self
 overflow_sub-self c =
-    some_nodes c.args.self.sheet (fit_of c.args.self (sym c.is_bad.ensures ∙ c.if-is_bad.false)).sounds
+    some_nodes c.args.self.now.sheet (fit_of c.args.self.now (sym c.is_bad.ensures ∙ c.if-is_bad.false)).sounds
 
 pub bit-allow-requires : goal.bit-allow-requires
 bit-allow-requires c =
-    let a = some_nodes c.args.self.sheet (fit_of c.args.self (sym c.is_bad.ensures ∙ c.if-is_bad.false)).sounds in
-    let b = few_nodes c.args.self.sheet (fit_of c.args.self (sym c.is_bad.ensures ∙ c.if-is_bad.false)).sounds in
+    let a = some_nodes c.args.self.now.sheet (fit_of c.args.self.now (sym c.is_bad.ensures ∙ c.if-is_bad.false)).sounds in
+    let b = few_nodes c.args.self.now.sheet (fit_of c.args.self.now (sym c.is_bad.ensures ∙ c.if-is_bad.false)).sounds in
     omega arith
 
 pub returns : goal.returns
 unfolding check_of
 returns c =
-    let q : bad c.args.self ≡ false = sym c.is_bad.ensures ∙ c.if-is_bad.false in
+    let q : bad c.args.self.now ≡ false = sym c.is_bad.ensures ∙ c.if-is_bad.false in
     rw (q, c.bit-allow.ensures, c.row_now-row.ensures)

@@ -7,8 +7,8 @@ use Rattle.monitor.proofs.Monitor.counts.Goals as goal
 
 pub returns-then-is_bad : goal.returns-then-is_bad
 unfolding counts_of
-returns-then-is_bad c = let q : bad c.args.self ≡ true = sym c.is_bad.ensures ∙ c.if-is_bad.true in rw q
+returns-then-is_bad c = let q : bad c.args.self.now ≡ true = sym c.is_bad.ensures ∙ c.if-is_bad.true in rw q
 
 pub returns : goal.returns
 unfolding counts_of
-returns c = let q : bad c.args.self ≡ false = sym c.is_bad.ensures ∙ c.if-is_bad.false in rw q
+returns c = let q : bad c.args.self.now ≡ false = sym c.is_bad.ensures ∙ c.if-is_bad.false in rw q
