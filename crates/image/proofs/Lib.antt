@@ -1,5 +1,6 @@
 pub mod Bytes
 pub mod Parts
+pub mod Chains
 pub mod Putting
 pub mod Saying
 pub mod Saves

@@ -14,9 +14,9 @@ use Rattle.meaning.specs.Lists.{all}
 use Rattle.meaning.specs.Limits.{kept_most, header_kind, session_kind, head_length, count_length, row_length, set_length, total_at, gone_at, carried_at, header_length, session_length}
 use Rattle.meaning.specs.Records.{head_of, marked, kind_of}
 use Rattle.meaning.specs.Image.{Image, bytes_of, number_of, session_bytes, header_bytes, image_bytes, in_parts, headed, kept_in, sessions_in, said, misshapen}
-use Rattle.image.specs.Parts.{image_length}
+use Rattle.image.specs.Parts.{image_length, one_session}
 use Rattle.image.proofs.Bytes.{bytes_length, number_again}
-use Rattle.image.proofs.Parts.{one_session, one_length, header_length_lem, head_length_lem, whole_length}
+use Rattle.image.proofs.Parts.{one_length, header_length_lem, head_length_lem, whole_length}
 
 -- an image that its bytes can hold
 pub record Writable (i : Image) : Type 0 where

@@ -17,9 +17,10 @@ use Rattle.window.proofs.Filled.{filled_take}
 use Rattle.monitor.specs.declared.Monitor.{Monitor}
 use Rattle.monitor.specs.Calls.{bad}
 use Rattle.image.specs.declared.reading.Header.{Header}
-use Rattle.image.specs.declared.reading.Header.TheVariants.{Says, Wrong}
+use Rattle.std.specs.declared.option.Option.{Option}
+use Rattle.std.specs.declared.option.Option.TheVariants.{Some, None}
 use Rattle.image.specs.Images.{monitor_in, restored_as, restore_of}
-use Rattle.image.specs.Parts.{image_length, Front, front_of, answer, unlawful_in}
+use Rattle.image.specs.Parts.{image_length, front_of, answer, unlawful_in}
 use Rattle.image.proofs.Saying.{sets_count}
 
 -- a refusal is no answer
@@ -27,7 +28,7 @@ is_good : {A : Type 0} → Answer A → Bool
 is_good (good x) = true
 is_good (refused n) = false
 
-front_in : Answer Front → Front
+front_in : Answer Header → Header
 front_in (good f) = f
 front_in (refused n) = record { total = 0; gone = 0; carried = 0 }
 
@@ -49,9 +50,9 @@ formed s e =
     let l = ltb-false (length s) header_length (or_false _ _ f).0 in
     record { long = l; whole = omega arith; kept_is = refl; few = ltb-false kept_most ((length s - header_length) / session_length) c.1 }
 
-module _ (s : List ℕ) (h : Header) (is : answer h ≡ front_of s) where
+module _ (s : List ℕ) (r : Option Header) (is : answer r ≡ front_of s) where
   -- a header that was not read: the image is not of the form
-  pub header_wrong : h ≡ Wrong → misshapen kept_most s ≡ true
+  pub header_wrong : r ≡ None → misshapen kept_most s ≡ true
   unfolding answer front_of is_good
   header_wrong e = go (misshapen kept_most s) refl
     where
@@ -59,7 +60,7 @@ module _ (s : List ℕ) (h : Header) (is : answer h ≡ front_of s) where
       go true t = t
       go false t = absurd (false≢true (ap is_good (sym (ap answer e) ∙ is) ∙ rw t))
 
-  module _ (total gone carried : ℕ) (e : h ≡ Says total gone carried) where
+  module _ (h : Header) (e : r ≡ Some h) where
     pub header_formed : misshapen kept_most s ≡ false
     unfolding answer front_of is_good
     header_formed = go (misshapen kept_most s) refl
@@ -68,21 +69,21 @@ module _ (s : List ℕ) (h : Header) (is : answer h ≡ front_of s) where
         go false t = t
         go true t = absurd (false≢true (sym (ap is_good (sym (ap answer e) ∙ is) ∙ rw t)))
 
-    says : ◌≡◌ {A = Front} (record { total = total; gone = gone; carried = carried }) (record { total = (said s).total; gone = (said s).gone; carried = (said s).carried_row })
+    says : h ≡ record { total = (said s).total; gone = (said s).gone; carried = (said s).carried_row }
     unfolding answer front_of front_in
     says = ap front_in (sym (ap answer e) ∙ is) ∙ rw header_formed
 
     pub shape : Formed s
     shape = formed s header_formed
 
-    pub total_is : total ≡ (said s).total
-    total_is = ap (λ (f : Front). f.total) says
+    pub total_is : h.total ≡ (said s).total
+    total_is = ap (λ (f : Header). f.total) says
 
-    pub gone_is : gone ≡ (said s).gone
-    gone_is = ap (λ (f : Front). f.gone) says
+    pub gone_is : h.gone ≡ (said s).gone
+    gone_is = ap (λ (f : Header). f.gone) says
 
-    pub carried_is : carried ≡ (said s).carried_row
-    carried_is = ap (λ (f : Front). f.carried) says
+    pub carried_is : h.carried ≡ (said s).carried_row
+    carried_is = ap (λ (f : Header). f.carried) says
 
 module _ (m : Monitor) (s : List ℕ) where
   pub restored_bad : bad m ≡ true → record { monitor = m; answer = refused 20 } ≡ restore_of m s

@@ -26,14 +26,12 @@ pub fn save(monitor: &Monitor, out: &mut [u8]) -> Result<usize, Refusal>
     if out.len() < length {
         return Err(Refusal::ShortBuffer);
     }
-    writing::put(
-        monitor.total,
-        monitor.gone,
-        monitor.carried,
-        &monitor.sets,
-        out,
-        length,
-    );
+    let header = Header {
+        total: monitor.total,
+        gone: monitor.gone,
+        carried: monitor.carried,
+    };
+    writing::put(header, &monitor.sets[..monitor.kept], out);
     Ok(length)
 }
 
@@ -47,27 +45,26 @@ pub fn restore(mut m: Monitor, bytes: &[u8]) -> Outcome<()>
             answer: Err(Refusal::BadState),
         };
     }
-    let Header::Says(total, gone, carried) = reading::read_header(bytes) else {
+    let Some(header) = reading::read_header(bytes) else {
         return Outcome {
             monitor: m,
             answer: Err(Refusal::MalformedImage),
         };
     };
     let kept = (bytes.len() - limits::HEADER) / limits::SESSION;
-    let sets = reading::sets_in(bytes, kept);
-    let s = m.sheet;
-    if reading::is_unlawful(s, carried, sets, kept) {
+    let sets = reading::sets_in(bytes);
+    if reading::is_unlawful(&m.sheet, header.carried, &sets[..kept]) {
         return Outcome {
             monitor: m,
             answer: Err(Refusal::UnlawfulImage),
         };
     }
     let mut rows = [0u64; limits::KEPT];
-    window::rows_from(&s, carried, &sets, &mut rows, 0, kept);
-    m.total = total;
-    m.gone = gone;
+    window::rows_from(&m.sheet, header.carried, &sets, &mut rows, 0, kept);
+    m.total = header.total;
+    m.gone = header.gone;
     m.kept = kept;
-    m.carried = carried;
+    m.carried = header.carried;
     m.sets = sets;
     m.rows = rows;
     Outcome {

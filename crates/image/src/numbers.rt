@@ -1,26 +1,24 @@
-// Numbers as bytes, lowest first.
-ghost use Rattle.std.specs.Prelude.{◌≡◌, ◌+◌, ◌/◌, ◌%◌, ◌^◌, ◌≤◌, ◌<◌, length, take, drop};
-ghost use Rattle.meaning.specs.Limits.{row_length};
+// Numbers in bytes, lowest first.
+ghost use Rattle.std.specs.Prelude.{◌≡◌, length};
+ghost use Rattle.meaning.specs.Limits.{count_length, row_length};
 ghost use Rattle.meaning.specs.Image.{number_of};
 
-// Byte i of a number.
-pub fn byte_of(n: u64, i: usize) -> u8
-    requires { i < row_length }
-    ensures { result ≡ n / 256 ^ i % 256 }
+// The number that four bytes say.
+pub fn u32_of(s: &[u8]) -> u32
+    requires { length s.now ≡ count_length }
+    ensures { result ≡ number_of s.now }
 {
-    ((n >> (8 * i)) % 256) as u8
+    let mut bytes = [0u8; limits::COUNT_BYTES];
+    bytes.copy_from_slice(s);
+    u32::from_le_bytes(bytes)
 }
 
-// The number in the n bytes from place `at` on.
-pub fn number_at(s: &[u8], at: usize, n: usize) -> u64
-    requires { (n ≤ row_length) × (at + n ≤ length s.now) }
-    ensures { (result ≡ number_of (take n (drop at s.now))) × (result < 256 ^ n) }
+// The number that eight bytes say.
+pub fn u64_of(s: &[u8]) -> u64
+    requires { length s.now ≡ row_length }
+    ensures { result ≡ number_of s.now }
 {
-    let mut value: u64 = 0;
-    let mut k = n;
-    while 0 < k {
-        k -= 1;
-        value = value * 256 + bits::byte(s[at + k]);
-    }
-    value
+    let mut bytes = [0u8; limits::ROW_BYTES];
+    bytes.copy_from_slice(s);
+    u64::from_le_bytes(bytes)
 }

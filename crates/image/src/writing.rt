@@ -1,82 +1,48 @@
-// Writing an image, byte by byte.
-ghost use Rattle.std.specs.Prelude.{◌≡◌, ◌++◌, ◌≤◌, ◌<◌, length, get_or, take, drop};
-ghost use Rattle.meaning.specs.Records.{head_of};
-ghost use Rattle.meaning.specs.Limits.{kept_most, session_kind, head_length, set_length, header_length, session_length};
-ghost use Rattle.meaning.specs.Image.{bytes_of, session_bytes, header_bytes};
-ghost use Rattle.image.specs.Parts.{image_length};
+// Writing an image: its header, and its sessions behind it.
+ghost use Rattle.std.specs.Prelude.{◌≡◌, ◌++◌, ◌≤◌, length, drop};
+ghost use Rattle.meaning.specs.Records.{head_of as head_by};
+ghost use Rattle.meaning.specs.Image.{session_bytes, header_bytes};
+ghost use Rattle.image.specs.Parts.{image_length, one_session};
 
-use crate::numbers;
+use crate::reading::Header;
 
-// Byte i of the mark with a kind behind it.
-fn mark_byte(kind: u8, i: usize) -> u8
-    requires { i < head_length }
-    ensures { result ≡ get_or (head_of kind) i 0 }
+// The mark, and a kind behind it.
+pub fn head_of(kind: u8) -> [u8; limits::SET_AT]
+    ensures { result ≡ head_by kind }
 {
-    if i == 0 {
-        return limits::MARK_FIRST;
-    }
-    if i == 1 {
-        return limits::MARK_SECOND;
-    }
-    kind
+    [limits::MARK_FIRST, limits::MARK_SECOND, kind]
 }
 
-// Byte i of the header.
-fn header_byte(total: u32, gone: u32, carried: u64, i: usize) -> u8
-    requires { i < header_length }
-    ensures { result ≡ get_or (header_bytes total gone carried) i 0 }
+fn bytes_of_header(h: Header) -> [u8; limits::HEADER]
+    ensures { result ≡ header_bytes h.total h.gone h.carried }
 {
-    if i < limits::TOTAL_AT {
-        return mark_byte(limits::HEADER_KIND, i);
-    }
-    if i < limits::GONE_AT {
-        return numbers::byte_of(bits::wide(total), i - limits::TOTAL_AT);
-    }
-    if i < limits::CARRIED_AT {
-        return numbers::byte_of(bits::wide(gone), i - limits::GONE_AT);
-    }
-    numbers::byte_of(carried, i - limits::CARRIED_AT)
+    let mut out = [0u8; limits::HEADER];
+    out[..limits::TOTAL_AT].copy_from_slice(&head_of(limits::HEADER_KIND));
+    out[limits::TOTAL_AT..limits::GONE_AT].copy_from_slice(&h.total.to_le_bytes());
+    out[limits::GONE_AT..limits::CARRIED_AT].copy_from_slice(&h.gone.to_le_bytes());
+    out[limits::CARRIED_AT..].copy_from_slice(&h.carried.to_le_bytes());
+    out
 }
 
-// Byte i of a kept session.
-fn session_byte(set: u32, i: usize) -> u8
-    requires { i < session_length }
-    ensures { result ≡ get_or (head_of session_kind ++ bytes_of set_length set) i 0 }
+fn bytes_of_session(set: u32) -> [u8; limits::SESSION]
+    ensures { result ≡ one_session set }
 {
-    if i < limits::SET_AT {
-        return mark_byte(limits::SESSION_KIND, i);
-    }
-    numbers::byte_of(bits::wide(set), i - limits::SET_AT)
+    let mut out = [0u8; limits::SESSION];
+    out[..limits::SET_AT].copy_from_slice(&head_of(limits::SESSION_KIND));
+    out[limits::SET_AT..].copy_from_slice(&set.to_le_bytes());
+    out
 }
 
-// Byte i of the image.
-fn byte_at(total: u32, gone: u32, carried: u64, sets: &[u32; limits::KEPT], i: usize) -> u8
-    requires { (i < image_length kept_most) × (length sets.now ≡ kept_most) }
-    ensures { result ≡ get_or (header_bytes total gone carried ++ session_bytes sets.now) i 0 }
+// The image goes to the front of the buffer. Nothing behind it changes.
+pub fn put(header: Header, sets: &[u32], out: &mut [u8])
+    requires { image_length (length sets.now) ≤ length out.old }
+    ensures { out.new ≡ (header_bytes header.total header.gone header.carried ++ session_bytes sets.now) ++ drop (image_length (length sets.now)) out.old }
 {
-    if i < limits::HEADER {
-        return header_byte(total, gone, carried, i);
-    }
-    let k = i - limits::HEADER;
-    let j = k / limits::SESSION;
-    session_byte(sets[j], k % limits::SESSION)
-}
-
-// The first `len` bytes of the image of all places go to the front of the buffer.
-pub fn put(
-    total: u32,
-    gone: u32,
-    carried: u64,
-    sets: &[u32; limits::KEPT],
-    out: &mut [u8],
-    len: usize,
-)
-    requires { (len ≤ image_length kept_most) × (len ≤ length out.old) × (length sets.now ≡ kept_most) }
-    ensures { out.new ≡ take len (header_bytes total gone carried ++ session_bytes sets.now) ++ drop len out.old }
-{
-    let mut i: usize = 0;
-    while i < len {
-        out[i] = byte_at(total, gone, carried, sets, i);
-        i += 1;
+    out[..limits::HEADER].copy_from_slice(&bytes_of_header(header));
+    // Each part by its place: once the borrows of `chunks_exact_mut` end, a proof knows the buffer's length, and no longer its bytes.
+    let mut at = limits::HEADER;
+    for set in sets {
+        out[at..at + limits::SESSION].copy_from_slice(&bytes_of_session(*set));
+        at += limits::SESSION;
     }
 }

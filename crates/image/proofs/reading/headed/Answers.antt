@@ -1,7 +1,10 @@
 -- `image::reading::headed` meets its contract.
 -- Assumes nothing.
-use Rattle.image.proofs.Parts.{headed_at}
+use mathlib.Core.Path.{◌∙◌}
+use Rattle.meaning.specs.Records.{head_of}
+use Rattle.image.proofs.Parts.{headed_is}
 use Rattle.image.proofs.reading.headed.Goals as goal
 
 pub returns : goal.returns
-returns c = headed_at c.args.s.now c.args.at c.args.kind
+unfolding head_of
+returns c = c.starts_with.ensures.value ∙ rw c.head_of.ensures (headed_is c.args.kind c.requires c.args.s.now)

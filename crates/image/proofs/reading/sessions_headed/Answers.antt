@@ -1,43 +1,16 @@
--- `image::reading::sessions_headed` meets its contract. The loop's invariant: all begin as they should exactly if those from place j on do.
+-- `image::reading::sessions_headed` meets its contract.
 -- Assumes nothing.
-use mathlib.Core.Path.{◌≡◌, sym, ◌∙◌}
-use mathlib.Core.Bool.{true, false}
-use native.Mathlib.Omega.{arith}
-use lib.ListN.{drop}
+use mathlib.Core.Path.{◌∙◌}
+use borrow.Author.Tests.{tests}
+use Rattle.std.proofs.Common.{rules}
+use Rattle.std.proofs.lemmas.Iterator.Search.{all_from_yields_List}
 use Rattle.meaning.specs.Limits.{session_kind}
-use Rattle.meaning.specs.Image.{headed}
-use Rattle.image.specs.Parts.{image_length}
-use Rattle.image.proofs.Saying.{headed_start, headed_more, headed_end}
+use Rattle.meaning.specs.Image.{headed, sessions_in}
+use Rattle.image.proofs.Chains.{all_is, chunks_give}
 use Rattle.image.proofs.reading.sessions_headed.Goals as goal
 
-pub loop-j-init : goal.loop-j-init
-loop-j-init c = (omega arith, headed_start c.args.s.now c.args.kept c.requires.1)
-
-pub overflow_mul-j : goal.overflow_mul-j
-overflow_mul-j c = let h = c.requires.0 in omega arith
-
-pub overflow_add-j : goal.overflow_add-j
-overflow_add-j c = let h = c.requires.0 in omega arith
-
-pub headed-requires : goal.headed-requires
-headed-requires c = let h = c.requires.0 in omega arith
-
-pub returns-then-not-headed : goal.returns-then-not-headed
-returns-then-not-headed c =
-    let q : headed session_kind (drop (image_length c.loop-j.j) c.args.s.now) ≡ false = sym c.headed.ensures ∙ c.if-not-headed.true in
-    sym (c.loop-j.invariant.1 ∙ headed_more c.args.s.now c.args.kept c.loop-j.j c.loop-j-test.true ∙ rw q)
-
-pub overflow_add-j-in-loop-j : goal.overflow_add-j-in-loop-j
-overflow_add-j-in-loop-j c = let h = c.requires.0 in omega arith
-
-pub loop-j-smaller : goal.loop-j-smaller
-loop-j-smaller c = omega arith
-
-pub loop-j-preserved : goal.loop-j-preserved
-loop-j-preserved c =
-    let q : headed session_kind (drop (image_length c.loop-j.j) c.args.s.now) ≡ true = sym c.headed.ensures ∙ c.if-not-headed.false
-    in
-    (omega arith, c.loop-j.invariant.1 ∙ headed_more c.args.s.now c.args.kept c.loop-j.j c.loop-j-test.true ∙ rw q)
-
 pub returns : goal.returns
-returns c = sym (c.loop-j.invariant.1 ∙ headed_end c.args.s.now c.args.kept c.loop-j.j c.loop-j-test.false)
+returns c =
+    let test = headed session_kind in
+    let s = c.args.s.now in
+    all_from_yields_List test _ _ _ c.all.ensures.ran (chunks_give {s = c.chunks_exact.result} s c.chunks_exact.ensures.rest c.chunks_exact.ensures.size) (λ x b q k. search (rules, tests)) ∙ all_is test (sessions_in s)

@@ -1,86 +1,49 @@
--- `image::reading::sets_in` meets its contract. The loop's invariant: the first j sets are in their places, the others hold 0.
+-- `image::reading::sets_in` meets its contract. The loop's invariant: the sets of the sessions so far are in their places, the others hold 0.
 -- Assumes nothing.
-use mathlib.Core.Path.{◌≡◌, refl, sym, ◌∙◌}
+use mathlib.Core.Path.{◌≡◌, sym, ◌∙◌}
 use native.Mathlib.Omega.{arith}
 use lib.ListN.{length}
+use Rattle.std.specs.Iterator.Adapters.{enumerate_source, enumerate_count}
+use Rattle.std.specs.Slice.Iter.{chunks_exact_rest}
 use Rattle.meaning.specs.Image.{said}
 use Rattle.window.proofs.Filled.{placing_more, placed_all}
-use Rattle.image.proofs.Saying.{sets_count, set_in}
+use Rattle.image.proofs.Saying.{Session, sets_count, session_is, none_left}
 use Rattle.image.proofs.reading.sets_in.Goals as goal
+use Rattle.image.proofs.reading.sets_in.Goals.{In-Some}
 
-pub loop-j-init : goal.loop-j-init
-loop-j-init c = (omega arith, refl)
-
-pub overflow_mul-at : goal.overflow_mul-at
-overflow_mul-at c =
-    let h = c.requires.0 in
-    let k = c.requires.1 in
-    let g = c.requires.2 in
-    let n = sets_count c.args.s.now in
-    omega arith
-
-pub overflow_add-at : goal.overflow_add-at
-overflow_add-at c =
-    let h = c.requires.0 in
-    let k = c.requires.1 in
-    let g = c.requires.2 in
-    let n = sets_count c.args.s.now in
-    omega arith
-
-pub overflow_add-at-in-loop-j : goal.overflow_add-at-in-loop-j
-overflow_add-at-in-loop-j c = let h = c.requires.0 in omega arith
-
-pub number_at-requires : goal.number_at-requires
-number_at-requires c =
-    let h = c.requires.0 in
-    let k = c.requires.1 in
-    let g = c.requires.2 in
-    let n = sets_count c.args.s.now in
-    (omega arith, omega arith)
-
-pub overflow_cast-out : goal.overflow_cast-out
-overflow_cast-out c = let b = c.number_at.ensures.1 in omega arith
-
-pub offset_bounds-out-j : goal.offset_bounds-out-j
-offset_bounds-out-j c =
-    let h = c.requires.0 in
-    let k = c.requires.1 in
-    let g = c.requires.2 in
-    let n = sets_count c.args.s.now in
-    omega arith
+-- the session that the iterator gave
+given : (c : In-Some) → Session c.args.s.now (enumerate_count c.loop-j.j-iterator) c.in-Some.session.now (chunks_exact_rest (enumerate_source c.next.new.self))
+given c =
+    let loop = c.loop-j.invariant in
+    let step = c.in-Some.ensures.steps in
+    session_is c.args.s.now _ c.in-Some.session.now (chunks_exact_rest (enumerate_source c.next.new.self)) c.requires.0 (sym loop.2 ∙ step.0.1.0) (step.0.1.1 ∙ loop.1)
 
 pub bounds-out-j : goal.bounds-out-j
 bounds-out-j c =
-    let h = c.requires.0 in
-    let k = c.requires.1 in
-    let g = c.requires.2 in
-    let n = sets_count c.args.s.now in
+    let step = c.in-Some.ensures.steps in
+    let few = c.requires.1 in
+    let there = (given (goal.at.bounds-out-j c).In-Some).there in
+    let e : c.in-Some.j ≡ enumerate_count c.loop-j.j-iterator = step.1 in
     omega arith
-
-pub overflow_add-j : goal.overflow_add-j
-overflow_add-j c =
-    let h = c.requires.0 in
-    let k = c.requires.1 in
-    let g = c.requires.2 in
-    let n = sets_count c.args.s.now in
-    omega arith
-
-pub loop-j-smaller : goal.loop-j-smaller
-loop-j-smaller c = omega arith
 
 pub loop-j-preserved : goal.loop-j-preserved
 loop-j-preserved c =
-    let h = c.requires.0 in
-    let k = c.requires.1 in
-    let g = c.requires.2 in
-    let n = sets_count c.args.s.now in
-    (omega arith, rw (c.number_at.ensures.0, c.loop-j.invariant.1, sym (set_in c.args.s.now c.loop-j.j (omega arith))) (placing_more c.loop-j.j (said c.args.s.now).sets (omega arith) (omega arith)))
+    let s = c.args.s.now in
+    let loop = c.loop-j.invariant in
+    let step = c.in-Some.ensures.steps in
+    let few = c.requires.1 in
+    let n = sets_count s in
+    let one = given (goal.at.loop-j-preserved c).In-Some in
+    let there = one.there in
+    rw (step.2, step.1, c.u32_of.ensures, one.set_is, loop.3)
+    (omega arith, step.0.0 ∙ loop.1, one.others, placing_more (enumerate_count c.loop-j.j-iterator) (said s).sets (omega arith) (omega arith))
 
 pub returns : goal.returns
 returns c =
-    let h = c.requires.0 in
-    let k = c.requires.1 in
-    let g = c.requires.2 in
-    let n = sets_count c.args.s.now in
-    let q : c.loop-j.j ≡ length (said c.args.s.now).sets = omega arith in
-    c.loop-j.invariant.1 ∙ placed_all (said c.args.s.now).sets c.loop-j.j q
+    let s = c.args.s.now in
+    let loop = c.loop-j.invariant in
+    let step = c.in-None.ensures.steps in
+    let n = sets_count s in
+    let all = none_left s (enumerate_count c.loop-j.j-iterator) (chunks_exact_rest (enumerate_source c.loop-j.j-iterator)) c.requires.0 loop.2 (rw (sym loop.1) step.0.1.0) in
+    let e : enumerate_count c.loop-j.j-iterator ≡ length (said s).sets = omega (arith, loop.0) in
+    loop.3 ∙ placed_all (said s).sets (enumerate_count c.loop-j.j-iterator) e

@@ -1,16 +1,9 @@
--- `image::writing::put` meets its contract. The loop's invariant: the first i bytes are the image's, the others are as they were.
+-- `image::writing::put` meets its contract. The loop's invariant: the header and the sessions so far are put.
 -- Assumes nothing.
-use Prim.Native.Nat.{◌-◌, ◌≤◌}
 use mathlib.Core.Path.{◌≡◌}
-use mathlib.Core.List.{◌++◌}
-use lib.ListN.{take, drop}
-use Rattle.image.proofs.Parts.{whole}
-use mathlib.Core.List.{◌++◌}
-use lib.ListN.{take, drop}
+use Rattle.image.specs.Parts.{image_length}
+use Rattle.image.proofs.Putting.{putting}
 use Rattle.image.proofs.writing.put.Given as goal
 
-abbrev pub invariant-loop-i : goal.invariant-loop-i
-invariant-loop-i l = (l.i ≤ l.len) × (l.out ≡ take l.i (whole l.total l.gone l.carried l.sets) ++ drop l.i l.initial.out)
-
-abbrev pub decreases-loop-i : goal.decreases-loop-i
-decreases-loop-i l = l.len - l.i
+abbrev pub invariant-loop-set : goal.invariant-loop-set
+invariant-loop-set l = (l.at ≡ image_length l.set-index) × (l.out ≡ putting l.fn.header l.sets l.fn.out l.set-index)

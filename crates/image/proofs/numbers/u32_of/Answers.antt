@@ -1,0 +1,12 @@
+-- `image::numbers::u32_of` meets its contract.
+-- Assumes nothing.
+use mathlib.Core.Path.{ap, ◌∙◌}
+use Rattle.std.proofs.Common.{rules}
+use Rattle.meaning.specs.Image.{number_of}
+use Rattle.image.proofs.Bytes.{number_of_4}
+use Rattle.image.proofs.numbers.u32_of.Goals as goal
+
+pub returns : goal.returns
+returns c =
+    number_of_4 c.copy_from_slice.new.self c.from_le_bytes.result (search rules) (search rules) c.from_le_bytes.type_inv c.from_le_bytes.ensures
+    ∙ ap number_of c.copy_from_slice.ensures.after
