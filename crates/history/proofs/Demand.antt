@@ -17,10 +17,8 @@ use Rattle.meaning.specs.Limits.{kept_most}
 use Rattle.meaning.specs.History.{After, restored, refused}
 use Rattle.meaning.specs.History
 use Rattle.meaning.specs.Image.{Image, image_bytes, image_of, save, read_image}
-use Rattle.laws.proofs.Accepted.{sheet_nonzero}
 use Rattle.refusals.specs.Numbers.{answer}
 use Rattle.sheet.specs.declared.Sheet.{Sheet}
-use Rattle.sheet.specs.declared.Loaded.{Loaded}
 use Rattle.sheet.specs.Loads.{stored, answered}
 use Rattle.sheet.specs.Sound.{rules_in}
 use Rattle.monitor.specs.declared.Monitor.{Monitor}
@@ -41,12 +39,16 @@ use Rattle.history.proofs.Calls.{made_fresh, begin_tells, made_begun, record_tel
 -- what the code of `load` and `new` promises of bytes that load
 fresh_of : (bytes : List ℕ) (m : Monitor) → Fresh bytes m → (l : Lists) × (sheet_of bytes ≡ good l) × (m ≡ fresh (stored l))
 unfolding Fresh answered
-fresh_of bytes m (κs, lent, loaded, hb, ll, z, ln) = go (sheet_of bytes) refl
+fresh_of bytes m (κs, lent, loaded, hb, ll, ln) = go (sheet_of bytes) refl
   where
     go : (a : Answer Lists) → sheet_of bytes ≡ a → (l : Lists) × (sheet_of bytes ≡ good l) × (m ≡ fresh (stored l))
-    go (good l) e = (l, e, ln ∙ ap (λ (x : Loaded). fresh x.sheet) (ll ∙ ap (λ (b : List ℕ). answered (sheet_of b)) hb ∙ ap answered e))
+    go (good l) e =
+        let q : good loaded ≡ good (stored l) = ll ∙ ap (λ (b : List ℕ). answered (sheet_of b)) hb ∙ ap answered e in
+        let same : loaded ≡ stored l = cc in
+        (l, e, ln ∙ ap fresh same)
     go (Answer.refused n) e =
-        absurd (sheet_nonzero bytes n e (ap (λ (x : Loaded). x.number) (sym (ll ∙ ap (λ (b : List ℕ). answered (sheet_of b)) hb ∙ ap answered e)) ∙ z))
+        let q : good loaded ≡ Answer.refused n = ll ∙ ap (λ (b : List ℕ). answered (sheet_of b)) hb ∙ ap answered e in
+        absurd (let z : ◌≡◌ {A = ℕ} 0 1 = cc in omega arith)
 
 -- and there is one such sheet
 fresh_again : (bytes : List ℕ) (l : Lists) (m : Monitor) → sheet_of bytes ≡ good l → Fresh bytes m → m ≡ fresh (stored l)

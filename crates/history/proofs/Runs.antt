@@ -48,9 +48,7 @@ lent_mut bytes = record { ref_ptr = (0, 0); ghost_name = 0; now = bytes }
 -- Bytes that load have a fresh monitor.
 pub some_fresh : (bytes : List ℕ) (l : Lists) → sheet_of bytes ≡ good l → Fresh bytes (fresh (stored l))
 unfolding Fresh answered
-some_fresh bytes l e =
-    let a = answered (sheet_of bytes) in
-    (any_lft, lent bytes, a, refl, refl, ap (λ (y : Answer Lists). (answered y).number) e, ap (λ (y : Answer Lists). fresh (answered y).sheet) (sym e))
+some_fresh bytes l e = (any_lft, lent bytes, stored l, refl, sym (ap answered e), refl)
 
 -- EVERY ANSWER OF THE DEFINITIONS IS ONE OF THE CODE: a number that is refused is that of some refusal
 

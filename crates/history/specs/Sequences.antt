@@ -1,6 +1,6 @@
 -- BELIEF. Demand 3: over any sequence of calls each answer is that of the history in which nothing is dropped.
 -- Assumes nothing.
-use Rattle.std.specs.Prelude.{ℕ, ◌+◌, ◌-◌, ◌≤◌, ◌<◌, ◌≡◌, true, false, cond, ◌⊎◌, ◌↔◌, List, [], ◌∷◌, leb, length, take, drop, Result}
+use Rattle.std.specs.Prelude.{ℕ, ◌+◌, ◌-◌, ◌≤◌, ◌<◌, ◌≡◌, true, false, cond, ◌⊎◌, ◌↔◌, List, [], ◌∷◌, leb, length, take, drop, Result, Ok}
 use contract.Lifetimes.{Lfts}
 use Rattle.std.specs.Borrow.{Bor, MutBor}
 use Rattle.meaning.specs.Rules.{Rules}
@@ -14,7 +14,7 @@ use Rattle.meaning.specs.History
 use Rattle.meaning.specs.Image.{Image, image_bytes, image_of, save, read_image}
 use Rattle.refusals.specs.declared.Refusal.{Refusal}
 use Rattle.refusals.specs.Numbers.{answer}
-use Rattle.sheet.specs.declared.Loaded.{Loaded}
+use Rattle.sheet.specs.declared.Sheet as Loaded
 use Rattle.sheet.proofs.load.Reads as load_reads
 use Rattle.monitor.specs.declared.Monitor.{Monitor}
 use Rattle.monitor.specs.declared.Outcome.{Outcome}
@@ -117,9 +117,9 @@ Hands y n x m = (x ≡ y) × (m ≡ n)
 -- the fresh monitor of bytes that load
 unfoldable pub Fresh : List ℕ → Monitor → Type 0
 Fresh bytes m =
-    (κs : Lfts 1) × (lent : Bor (List ℕ)) × (loaded : Loaded)
-    × (lent.now ≡ bytes) × load_reads.Learnt κs (lent, tt) loaded (lent, tt) × (loaded.number ≡ 0)
-    × new_reads.Learnt tt (loaded.sheet, tt) m (loaded.sheet, tt)
+    (κs : Lfts 1) × (lent : Bor (List ℕ)) × (loaded : Loaded.Sheet)
+    × (lent.now ≡ bytes) × load_reads.Learnt κs (lent, tt) (Ok loaded) (lent, tt)
+    × new_reads.Learnt tt (loaded, tt) m (loaded, tt)
 
 -- the bytes that a save wrote, before those that earlier ones did
 unfoldable pub wrote_too : Answer ℕ → List ℕ → List (List ℕ) → List (List ℕ)

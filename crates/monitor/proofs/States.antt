@@ -5,14 +5,11 @@ use mathlib.Core.Path.{◌≡◌, refl}
 use mathlib.Core.Bool.{Bool, true, false, not, ◌||◌}
 use native.Mathlib.Omega.{arith}
 use lib.Dec.{eqb, leb, ltb}
-use lib.ListN.{get_or}
 use borrow.Author.Tests.{ltb-false, leb-false, eqb-true, ne_eqb, not-false}
 use Rattle.laws.proofs.Quantifiers.{or_false}
 use Rattle.laws.proofs.Lawful.{passes}
 use Rattle.rows.proofs.Arms.{few_nodes}
 use Rattle.meaning.specs.Limits.{nodes_most, kept_most, total_most}
-use Rattle.meaning.specs.Sets.{apart, within}
-use Rattle.meaning.specs.Events.{possible, supported}
 use Rattle.meaning.specs.Refusals.{refused}
 use Rattle.refusals.specs.declared.Refusal.{Refusal}
 use Rattle.refusals.specs.Numbers.{number}

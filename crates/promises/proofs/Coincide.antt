@@ -13,7 +13,7 @@ use Rattle.promises.specs.Coincide.{LoadOne, EmptyOne, IsSoundOne, EventOfOne, R
 
 pub load_one : LoadOne
 unfolding LoadOne
-load_one κs bytes a b p q = p ∙ sym q
+load_one κs bytes a b p q = same_answer a b (p ∙ sym q)
 
 pub empty_one : EmptyOne
 unfolding EmptyOne
@@ -27,7 +27,7 @@ is_sound_one κs s a b p q = p ∙ sym q
 
 pub event_of_one : EventOfOne
 unfolding EventOfOne
-event_of_one κs sheet access path a b p q = p ∙ sym q
+event_of_one κs sheet access path a b p q = same_answer a b (p ∙ sym q)
 
 pub root_of_one : RootOfOne
 unfolding RootOfOne

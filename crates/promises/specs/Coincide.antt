@@ -7,11 +7,9 @@ use contract.Lifetimes.{Lfts}
 use Rattle.std.specs.Borrow.{Bor, MutBor}
 use Rattle.refusals.specs.declared.Refusal.{Refusal}
 use Rattle.sheet.specs.declared.Sheet.{Sheet}
-use Rattle.sheet.specs.declared.Loaded.{Loaded}
 use Rattle.sheet.proofs.load.Reads as load_reads
 use Rattle.sheet.proofs.Sheet.empty.Reads as empty_reads
 use Rattle.sheet.proofs.Sheet.is_sound.Reads as is_sound_reads
-use Rattle.path.specs.declared.Event.{Event}
 use Rattle.path.proofs.event_of.Reads as event_of_reads
 use Rattle.path.proofs.root_of.Reads as root_of_reads
 use Rattle.path.proofs.rest_of.Reads as rest_of_reads
@@ -43,7 +41,7 @@ OneLeft {A} promise = (a b : A) (left-a left-b : MutBor (List ℕ)) → promise 
 -- SHEETS
 
 unfoldable pub LoadOne : Type 0
-LoadOne = (κs : Lfts 1) (bytes : Bor (List ℕ)) → One (λ (a : Loaded). load_reads.Learnt κs (bytes, tt) a (bytes, tt))
+LoadOne = (κs : Lfts 1) (bytes : Bor (List ℕ)) → One (λ (a : Result Sheet Refusal). load_reads.Learnt κs (bytes, tt) a (bytes, tt))
 
 unfoldable pub EmptyOne : Type 0
 EmptyOne = One (λ (a : Sheet). empty_reads.Learnt tt tt a tt)
@@ -56,7 +54,7 @@ IsSoundOne = (κs : Lfts 1) (s : Bor Sheet) → One (λ (a : Bool). is_sound_rea
 unfoldable pub EventOfOne : Type 0
 EventOfOne =
     (κs : Lfts 2) (sheet : Bor (List ℕ)) (access : ℕ) (path : Bor (List ℕ))
-    → One (λ (a : Event). event_of_reads.Learnt κs (sheet, (access, (path, tt))) a (sheet, (access, (path, tt))))
+    → One (λ (a : Result ℕ Refusal). event_of_reads.Learnt κs (sheet, (access, (path, tt))) a (sheet, (access, (path, tt))))
 
 unfoldable pub RootOfOne : Type 0
 RootOfOne =

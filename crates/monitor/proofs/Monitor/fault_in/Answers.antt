@@ -1,7 +1,6 @@
 -- `monitor::Monitor::fault_in` meets its contract.
 -- Assumes nothing.
 use mathlib.Core.Path.{◌∙◌}
-use native.Mathlib.Omega.{arith}
 use borrow.Author.Tests.{le-leb, lt-leb, lt-ltb, le-ltb, eq-eqb, ne_eqb}
 use Rattle.monitor.specs.Calls.{fault_in}
 use Rattle.monitor.proofs.Monitor.fault_in.Goals as goal
