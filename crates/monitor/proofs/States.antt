@@ -8,7 +8,7 @@ use lib.Dec.{eqb, leb, ltb}
 use borrow.Author.Tests.{ltb-false, leb-false, eqb-true, ne_eqb, not-false}
 use Rattle.laws.proofs.Quantifiers.{or_false}
 use Rattle.laws.proofs.Lawful.{passes}
-use Rattle.rows.proofs.Arms.{few_nodes}
+use Rattle.rows.proofs.Arms.{few_events, few_nodes}
 use Rattle.meaning.specs.Limits.{nodes_most, kept_most, total_most}
 use Rattle.meaning.specs.Refusals.{refused}
 use Rattle.refusals.specs.declared.Refusal.{Refusal}
@@ -89,3 +89,6 @@ places m session e q =
       begun = ltb-false m.total session t.1;
       known = leb-false m.sheet.events e b.0;
     }
+
+-- what the goals of `record` share
+pub ruleset recording = (few_events, record_refused, places)

@@ -10,20 +10,21 @@ use refusals::Refusal;
 
 impl Monitor {
     // One session more, empty.
+    #[tactic(auto, unfolding(crate::specs::Calls::opened))]
     fn opened(mut self) -> Self
         requires { Fit self × (self.kept < kept_most) × (self.total < total_most) }
         ensures { result ≡ opened_by self }
     {
-        let kept = self.kept;
-        let before = window::row_before(self.carried, &self.rows, kept);
-        self.sets[kept] = 0;
-        self.rows[kept] = rows::next_row(&self.sheet, before, 0);
-        self.kept = kept + 1;
-        self.total = self.total + 1;
+        let before = window::row_before(self.carried, &self.rows, self.kept);
+        self.sets[self.kept] = 0;
+        self.rows[self.kept] = rows::next_row(&self.sheet, before, 0);
+        self.kept += 1;
+        self.total += 1;
         self
     }
 
     // 20, 28, 27.
+    #[tactic(auto, unfolding(crate::specs::Calls::begin_fault_of))]
     fn begin_fault(&self) -> Result<(), Refusal>
         ensures { fault result ≡ begin_fault_of self.now }
     {
@@ -42,6 +43,7 @@ impl Monitor {
     }
 
     // Begins a session, and answers its number.
+    #[tactic(auto, using(crate::proofs::States::begin_refused), unfolding(crate::specs::Calls::begin_of))]
     pub fn begin(mut self) -> Outcome<u32>
         ensures { outcome result ≡ begin_of self }
     {
@@ -52,10 +54,9 @@ impl Monitor {
             };
         }
         let session = self.total + 1;
-        self = self.opened();
-        let m = self.settled();
+        self = self.opened().settled();
         Outcome {
-            monitor: m,
+            monitor: self,
             answer: Ok(session),
         }
     }

@@ -9,6 +9,7 @@ use refusals::Refusal;
 
 impl Monitor {
     // The row at the last session.
+    #[tactic(auto, unfolding(crate::specs::Calls::row_now))]
     fn row_now(&self) -> u64
         requires { Fit self.now }
         ensures { result ≡ row_now self.now }
@@ -23,6 +24,7 @@ impl Monitor {
     }
 
     // The verdict, and the row of truths at the last session.
+    #[tactic(auto, unfolding(crate::specs::Calls::check_of))]
     pub fn check(&self) -> Result<Verdict, Refusal>
         ensures { answer result ≡ check_of self.now }
     {

@@ -8,6 +8,7 @@ use refusals::Refusal;
 
 impl Monitor {
     // Total, let go and kept.
+    #[tactic(auto, unfolding(crate::specs::Calls::counts_of))]
     pub fn counts(&self) -> Result<Counts, Refusal>
         ensures { answer result ≡ counts_of self.now }
     {

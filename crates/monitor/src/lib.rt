@@ -55,6 +55,7 @@ impl Monitor {
     pub const NODES: usize = limits::NODES;
 
     // The empty monitor of a loaded sheet.
+    #[tactic(auto, unfolding(crate::specs::Calls::fresh))]
     pub fn new(sheet: Sheet) -> Self
         ensures { result ≡ fresh sheet }
     {
@@ -70,6 +71,7 @@ impl Monitor {
     }
 
     // Whether the state is one that 20 turns away.
+    #[tactic(auto, using(crate::proofs::States::too_many_nodes), unfolding(crate::specs::Calls::bad))]
     pub fn is_bad(&self) -> bool
         ensures { result ≡ bad self.now }
     {
@@ -80,17 +82,16 @@ impl Monitor {
     }
 
     // The oldest kept session is let go while it is closed.
+    #[tactic(auto, using(window::proofs::Moves::run_le), unfolding(crate::specs::Calls::settled))]
     fn settled(mut self) -> Self
         requires { Fit self }
         ensures { result ≡ settled_by self }
     {
-        let kept = self.kept;
-        let k = window::front_closed(&self.sheet, &self.sets, kept);
-        let before = window::row_before(self.carried, &self.rows, k);
-        window::moved_up(&mut self.sets, &mut self.rows, k, kept);
-        self.carried = before;
-        self.gone = self.gone + k as u32;
-        self.kept = kept - k;
+        let k = window::front_closed(&self.sheet, &self.sets, self.kept);
+        self.carried = window::row_before(self.carried, &self.rows, k);
+        window::moved_up(&mut self.sets, &mut self.rows, k, self.kept);
+        self.gone += k as u32;
+        self.kept -= k;
         self
     }
 }

