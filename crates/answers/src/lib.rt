@@ -1,189 +1,139 @@
 // The line of each kind of answer. Where a call was refused, the line has "r" and the number of the refusal in place of what the call would say.
 #![tactic(auto)]
 
-ghost use Rattle.std.specs.Prelude.{◌<◌, ◌≤◌, OnErr};
+ghost use Rattle.std.specs.Prelude.{OnErr};
+ghost use Rattle.answers.specs.Gathered.{Full};
 
-use buffer::{Buffer, ROOM};
+use buffer::Gathering;
+use itoa::Integer;
+use monitor::{Counts, Verdict};
+use refusals::Refusal;
 use std::io;
 use std::io::Write;
 
 pub mod buffer;
 
 // A command that could not be read.
-pub fn unknown<W: Write>(to: &mut W, out: &mut Buffer, at: &mut usize) -> io::Result<()>
-    ensures err { OnErr result (ROOM ≤ at.new) }
+pub fn unknown<W: Write>(out: &mut Gathering<W>) -> io::Result<()>
+    ensures err { OnErr result (Full out.new) }
 {
-    buffer::bytes(to, out, at, b"?\n")
+    out.bytes(b"?\n")
 }
 
-fn refused<W: Write>(to: &mut W, out: &mut Buffer, at: &mut usize, number: u32) -> io::Result<()>
-    ensures err { OnErr result (ROOM ≤ at.new) }
+fn refused<W: Write>(out: &mut Gathering<W>, refusal: Refusal) -> io::Result<()>
+    ensures err { OnErr result (Full out.new) }
 {
-    buffer::byte(to, out, at, b'r')?;
-    buffer::decimal(to, out, at, bits::wide(number))
+    out.byte(b'r')?;
+    out.decimal(refusal.number())
 }
 
 // A refusal and nothing else.
-fn refusal<W: Write>(to: &mut W, out: &mut Buffer, at: &mut usize, number: u32) -> io::Result<()>
-    ensures err { OnErr result (ROOM ≤ at.new) }
+fn refusal<W: Write>(out: &mut Gathering<W>, refusal: Refusal) -> io::Result<()>
+    ensures err { OnErr result (Full out.new) }
 {
-    refused(to, out, at, number)?;
-    buffer::byte(to, out, at, b'\n')
+    refused(out, refusal)?;
+    out.byte(b'\n')
 }
 
 // A call that has nothing to say but that it was accepted.
-pub fn accepted<W: Write>(
-    to: &mut W,
-    out: &mut Buffer,
-    at: &mut usize,
-    number: u32,
-) -> io::Result<()>
-    ensures err { OnErr result (ROOM ≤ at.new) }
+pub fn accepted<W: Write>(out: &mut Gathering<W>, answer: Result<(), Refusal>) -> io::Result<()>
+    ensures err { OnErr result (Full out.new) }
 {
-    if number != 0 {
-        return refusal(to, out, at, number);
+    match answer {
+        Ok(()) => out.bytes(b"ok\n"),
+        Err(r) => refusal(out, r),
     }
-    buffer::bytes(to, out, at, b"ok\n")
 }
 
 // A number behind the letter that says what it is, or the refusal.
-fn told<W: Write>(
-    to: &mut W,
-    out: &mut Buffer,
-    at: &mut usize,
-    number: u32,
+fn told<W: Write, N: Integer>(
+    out: &mut Gathering<W>,
     letter: u8,
-    n: u64,
+    answer: Result<N, Refusal>,
 ) -> io::Result<()>
-    ensures err { OnErr result (ROOM ≤ at.new) }
+    ensures err { OnErr result (Full out.new) }
 {
-    if number != 0 {
-        return refused(to, out, at, number);
+    match answer {
+        Ok(n) => {
+            out.byte(letter)?;
+            out.decimal(n)
+        }
+        Err(r) => refused(out, r),
     }
-    buffer::byte(to, out, at, letter)?;
-    buffer::decimal(to, out, at, n)
 }
 
 // The session begun.
-pub fn session<W: Write>(
-    to: &mut W,
-    out: &mut Buffer,
-    at: &mut usize,
-    number: u32,
-    session: u32,
-) -> io::Result<()>
-    ensures err { OnErr result (ROOM ≤ at.new) }
+pub fn session<W: Write>(out: &mut Gathering<W>, answer: Result<u32, Refusal>) -> io::Result<()>
+    ensures err { OnErr result (Full out.new) }
 {
-    told(to, out, at, number, b's', bits::wide(session))?;
-    buffer::byte(to, out, at, b'\n')
+    told(out, b's', answer)?;
+    out.byte(b'\n')
 }
 
 // The length of an image, and the whole buffer that was lent for it: what a refused call left there shows too.
 pub fn image<W: Write>(
-    to: &mut W,
-    out: &mut Buffer,
-    at: &mut usize,
-    number: u32,
-    length: usize,
+    out: &mut Gathering<W>,
+    answer: Result<usize, Refusal>,
     lent: &[u8],
 ) -> io::Result<()>
-    ensures err { OnErr result (ROOM ≤ at.new) }
+    ensures err { OnErr result (Full out.new) }
 {
-    told(to, out, at, number, b'i', length as u64)?;
-    buffer::byte(to, out, at, b' ')?;
-    buffer::hex(to, out, at, lent)?;
-    buffer::byte(to, out, at, b'\n')
+    told(out, b'i', answer)?;
+    out.byte(b' ')?;
+    out.hex(lent)?;
+    out.byte(b'\n')
 }
 
-fn part(row: u64, shift: u8) -> u8
-    requires { shift < 64 }
+// The verdict, and the row of truths in 16 hex digits, its highest byte first.
+pub fn verdict<W: Write>(out: &mut Gathering<W>, answer: Result<Verdict, Refusal>) -> io::Result<()>
+    ensures err { OnErr result (Full out.new) }
 {
-    ((row >> shift) % 256) as u8
-}
-
-// A row of truths in 16 hex digits, its highest byte first.
-fn row<W: Write>(to: &mut W, out: &mut Buffer, at: &mut usize, row: u64) -> io::Result<()>
-    ensures err { OnErr result (ROOM ≤ at.new) }
-{
-    let bytes = [
-        part(row, 56),
-        part(row, 48),
-        part(row, 40),
-        part(row, 32),
-        part(row, 24),
-        part(row, 16),
-        part(row, 8),
-        part(row, 0),
-    ];
-    buffer::hex(to, out, at, &bytes)
-}
-
-// The verdict, and the row of truths.
-pub fn verdict<W: Write>(
-    to: &mut W,
-    out: &mut Buffer,
-    at: &mut usize,
-    number: u32,
-    allow: bool,
-    truths: u64,
-) -> io::Result<()>
-    ensures err { OnErr result (ROOM ≤ at.new) }
-{
-    if number != 0 {
-        return refusal(to, out, at, number);
+    match answer {
+        Ok(Verdict { allow, row }) => {
+            out.bytes(if allow { b"allow " } else { b"deny " })?;
+            out.hex(&row.to_be_bytes())?;
+            out.byte(b'\n')
+        }
+        Err(r) => refusal(out, r),
     }
-    if allow {
-        buffer::bytes(to, out, at, b"allow ")?;
-    } else {
-        buffer::bytes(to, out, at, b"deny ")?;
-    }
-    row(to, out, at, truths)?;
-    buffer::byte(to, out, at, b'\n')
 }
 
 // Total, let go and kept.
-pub fn counts<W: Write>(
-    to: &mut W,
-    out: &mut Buffer,
-    at: &mut usize,
-    number: u32,
-    total: u32,
-    gone: u32,
-    kept: usize,
-) -> io::Result<()>
-    ensures err { OnErr result (ROOM ≤ at.new) }
+pub fn counts<W: Write>(out: &mut Gathering<W>, answer: Result<Counts, Refusal>) -> io::Result<()>
+    ensures err { OnErr result (Full out.new) }
 {
-    if number != 0 {
-        return refusal(to, out, at, number);
+    match answer {
+        Ok(Counts { total, gone, kept }) => {
+            out.decimal(total)?;
+            out.byte(b' ')?;
+            out.decimal(gone)?;
+            out.byte(b' ')?;
+            out.decimal(kept)?;
+            out.byte(b'\n')
+        }
+        Err(r) => refusal(out, r),
     }
-    buffer::decimal(to, out, at, bits::wide(total))?;
-    buffer::byte(to, out, at, b' ')?;
-    buffer::decimal(to, out, at, bits::wide(gone))?;
-    buffer::byte(to, out, at, b' ')?;
-    buffer::decimal(to, out, at, kept as u64)?;
-    buffer::byte(to, out, at, b'\n')
 }
 
 // The event that an access is, the root that the path lies under and the rest of the path.
 pub fn event<W: Write>(
-    to: &mut W,
-    out: &mut Buffer,
-    at: &mut usize,
-    number: u32,
-    event: u8,
+    out: &mut Gathering<W>,
+    answer: Result<u8, Refusal>,
     root: &[u8],
     rest: &[u8],
 ) -> io::Result<()>
-    ensures err { OnErr result (ROOM ≤ at.new) }
+    ensures err { OnErr result (Full out.new) }
 {
-    if number != 0 {
-        return refusal(to, out, at, number);
+    match answer {
+        Ok(event) => {
+            out.byte(b'e')?;
+            out.decimal(event)?;
+            out.byte(b' ')?;
+            out.hex(root)?;
+            out.byte(b' ')?;
+            out.hex(rest)?;
+            out.byte(b'\n')
+        }
+        Err(r) => refusal(out, r),
     }
-    buffer::byte(to, out, at, b'e')?;
-    buffer::decimal(to, out, at, event as u64)?;
-    buffer::byte(to, out, at, b' ')?;
-    buffer::hex(to, out, at, root)?;
-    buffer::byte(to, out, at, b' ')?;
-    buffer::hex(to, out, at, rest)?;
-    buffer::byte(to, out, at, b'\n')
 }

@@ -1,143 +1,86 @@
 // One line: which command it is, and what the commands work on. Those on a sheet's bytes are here, a function for each; those on the monitor are in `calls`.
-// Each takes the state, hands it back as it is then, and writes one line. A command that cannot be read gives "?" and leaves the state as it was. Where
-// a line cannot be written there is no state, only the error of the write.
+// Each works on the state, and writes one line. A command that cannot be read gives "?" and leaves the state as it was. Where the line cannot be written the
+// state is what the command made it.
 #![tactic(auto)]
 
-ghost use Rattle.std.specs.Prelude.{◌≤◌, OnErr};
+ghost use Rattle.std.specs.Prelude.{OnErr};
+ghost use Rattle.answers.specs.Gathered.{Full};
 
-use answers::buffer::{Buffer, ROOM};
+use answers::buffer::Gathering;
 use monitor::Monitor;
 use sheet::Sheet;
 use std::io;
 use std::io::Write;
-use text::{Hex, Number32};
+use text::Bytes;
 
-// The bytes of the last sheet and how many there are, accepted or not; and the monitor at hand, all zeros until a sheet was accepted.
-#[derive(Clone, Copy)]
+// The bytes of the last sheet, accepted or not; and the monitor at hand, all zeros until a sheet was accepted.
+#[derive(Drop)]
 pub struct State {
-    pub sheet: [u8; text::BYTES],
-    pub len: usize,
+    pub sheet: Bytes,
     pub monitor: Monitor,
 }
 
 impl State {
     pub fn new() -> Self {
-        let m = Monitor::new(Sheet::empty());
         Self {
-            sheet: [0; text::BYTES],
-            len: 0,
-            monitor: m,
+            sheet: Bytes::new(),
+            monitor: Monitor::new(Sheet::empty()),
         }
     }
 }
 
 // Runs the command that the line's first word names.
-pub fn run<W: Write>(
-    mut state: State,
-    line: &[u8],
-    to: &mut W,
-    out: &mut Buffer,
-    at: &mut usize,
-) -> io::Result<State>
-    ensures err { OnErr result (ROOM ≤ at.new) }
+pub fn run<W: Write>(state: &mut State, line: &[u8], out: &mut Gathering<W>) -> io::Result<()>
+    ensures err { OnErr result (Full out.new) }
 {
-    let rest = text::argument(line);
-    if text::leads(line, b"sheet") {
-        return take_sheet(state, rest, to, out, at);
+    let (word, rest) = text::first_word(line);
+    match (word, rest) {
+        (b"sheet", Some(rest)) => take_sheet(state, rest, out),
+        (b"path", Some(rest)) => ask_path(state, rest, out),
+        (b"read", Some(path)) => ask(state, 0, path, out),
+        (b"write", Some(path)) => ask(state, 1, path, out),
+        _ => calls::run(&mut state.monitor, word, rest, out),
     }
-    if text::leads(line, b"path") {
-        return ask_path(state, rest, to, out, at);
-    }
-    if text::leads(line, b"read") {
-        return ask(state, 0, rest, to, out, at);
-    }
-    if text::leads(line, b"write") {
-        return ask(state, 1, rest, to, out, at);
-    }
-    let m = state.monitor;
-    let later = calls::run(m, line, to, out, at)?;
-    state.monitor = later;
-    Ok(state)
 }
 
 // sheet HEX: whether the bytes load. They are kept either way, for the path questions; an accepted sheet makes a fresh monitor.
-fn take_sheet<W: Write>(
-    mut state: State,
-    rest: &[u8],
-    to: &mut W,
-    out: &mut Buffer,
-    at: &mut usize,
-) -> io::Result<State>
-    ensures err { OnErr result (ROOM ≤ at.new) }
+fn take_sheet<W: Write>(state: &mut State, rest: &[u8], out: &mut Gathering<W>) -> io::Result<()>
+    ensures err { OnErr result (Full out.new) }
 {
-    let mut bytes = [0u8; text::BYTES];
-    let Hex::Bytes(n) = text::hex_into(rest, &mut bytes) else {
-        answers::unknown(to, out, at)?;
-        return Ok(state);
+    let Some(bytes) = text::from_hex(rest) else {
+        return answers::unknown(out);
     };
-    let loaded = sheet::load(text::held(&bytes, n));
-    answers::accepted(to, out, at, loaded.number)?;
-    if loaded.number == 0 {
-        let s = loaded.sheet;
-        let m = Monitor::new(s);
-        state.monitor = m;
-    }
+    let loaded = sheet::load(bytes.as_slice());
     state.sheet = bytes;
-    state.len = n;
-    Ok(state)
+    if let Ok(sheet) = loaded {
+        state.monitor = Monitor::new(sheet);
+    }
+    answers::accepted(out, loaded.map(|_| ()))
+}
+
+// The access and the path of A HEX.
+fn access_and_path(rest: &[u8]) -> Option<(u32, Bytes)> {
+    let (access, path) = text::first_word(rest);
+    Some((text::decimal(access)?, text::from_hex(path?)?))
 }
 
 // path A HEX: the question for access A and these bytes.
-fn ask_path<W: Write>(
-    state: State,
-    rest: &[u8],
-    to: &mut W,
-    out: &mut Buffer,
-    at: &mut usize,
-) -> io::Result<State>
-    ensures err { OnErr result (ROOM ≤ at.new) }
+fn ask_path<W: Write>(state: &State, rest: &[u8], out: &mut Gathering<W>) -> io::Result<()>
+    ensures err { OnErr result (Full out.new) }
 {
-    let Number32::Is(access) = text::decimal32(text::word(rest)) else {
-        answers::unknown(to, out, at)?;
-        return Ok(state);
+    let Some((access, path)) = access_and_path(rest) else {
+        return answers::unknown(out);
     };
-    let mut bytes = [0u8; text::BYTES];
-    let Hex::Bytes(n) = text::hex_into(text::argument(rest), &mut bytes) else {
-        answers::unknown(to, out, at)?;
-        return Ok(state);
-    };
-    ask(state, access, text::held(&bytes, n), to, out, at)
+    ask(state, access, path.as_slice(), out)
 }
 
-// read PATH, write PATH: the question for the path as it stands.
-fn ask<W: Write>(
-    state: State,
-    access: u32,
-    path: &[u8],
-    to: &mut W,
-    out: &mut Buffer,
-    at: &mut usize,
-) -> io::Result<State>
-    ensures err { OnErr result (ROOM ≤ at.new) }
+// read PATH, write PATH: the question for the path as it stands. The event, the root and the rest of the path, or the number of the refusal.
+fn ask<W: Write>(state: &State, access: u32, path: &[u8], out: &mut Gathering<W>) -> io::Result<()>
+    ensures err { OnErr result (Full out.new) }
 {
-    let len = state.len;
-    show(text::held(&state.sheet, len), access, path, to, out, at)?;
-    Ok(state)
-}
-
-// The event, the root and the rest of the path, or the number of the refusal.
-fn show<W: Write>(
-    sheet: &[u8],
-    access: u32,
-    path: &[u8],
-    to: &mut W,
-    out: &mut Buffer,
-    at: &mut usize,
-) -> io::Result<()>
-    ensures err { OnErr result (ROOM ≤ at.new) }
-{
-    let e = path::event_of(sheet, access, path);
+    let sheet = state.sheet.as_slice();
+    let event = path::event_of(sheet, access, path);
     let root = path::root_of(sheet, access, path);
     let rest = path::rest_of(sheet, access, path);
-    answers::event(to, out, at, e.number, e.event, root, rest)
+    answers::event(out, event, root, rest)
 }

@@ -2,248 +2,80 @@
 // that a caller has nothing to show first.
 #![tactic(auto)]
 
-ghost use Rattle.std.specs.Prelude.{◌≡◌, ◌≤◌, take};
+ghost use Rattle.std.specs.Prelude.{◌≡◌, ◌≢◌, ◌<◌, ◌++◌, ◌∷◌, take, slice_index, EachIndex, MatchOption, IfSome, Ok};
 
-// What a text says in hexadecimal: so many bytes, or nothing that can be read.
-#[derive(Clone, Copy)]
-pub enum Hex {
-    Bytes(usize),
-    Wrong,
-}
-
-// What a text says in decimal.
-#[derive(Clone, Copy)]
-pub enum Number {
-    Is(u64),
-    Wrong,
-}
-
-// What a text says in decimal, where the number is one of 32 bits.
-#[derive(Clone, Copy)]
-pub enum Number32 {
-    Is(u32),
-    Wrong,
-}
-
-// What two hexadecimal digits say.
-#[derive(Clone, Copy)]
-enum Pair {
-    Byte(u8),
-    Wrong,
-}
+use arrayvec::ArrayVec;
+use std::str;
+use std::str::FromStr;
 
 // The first n bytes of s, or all of it where it has fewer.
 pub fn front(s: &[u8], n: usize) -> &[u8]
     ensures { result.now ≡ take n s.now }
 {
-    if n <= s.len() {
-        return &s[0..n];
-    }
-    s
+    s.get(..n).unwrap_or(s)
 }
 
-// What follows the first n bytes of s: nothing where it has fewer.
-pub fn behind(s: &[u8], n: usize) -> &[u8] {
-    if n <= s.len() {
-        return &s[n..];
+// The first word of s, and what follows the space behind it: nothing where s has no space.
+pub fn first_word(s: &[u8]) -> (&[u8], Option<&[u8]>)
+    ensures parts { MatchOption result.1 (result.0.now ≡ s.now) (λ rest. s.now ≡ result.0.now ++ 32 ∷ rest.now) }
+    ensures word { EachIndex result.0.now (λ k. slice_index result.0.now k ≢ 32) }
+{
+    match s.iter().position(|c| *c == b' ') {
+        Some(n) => (&s[..n], Some(&s[n + 1..])),
+        None => (s, None),
     }
-    &s[0..0]
-}
-
-// Whether the first bytes of s are those of t.
-fn begins(s: &[u8], t: &[u8]) -> bool {
-    if s.len() < t.len() {
-        return false;
-    }
-    let mut i = 0;
-    while i < t.len() {
-        if s[i] != t[i] {
-            return false;
-        }
-        i += 1;
-    }
-    true
-}
-
-// Whether s and t are the same, byte for byte.
-pub fn same(s: &[u8], t: &[u8]) -> bool {
-    if s.len() != t.len() {
-        return false;
-    }
-    begins(s, t)
-}
-
-// Where the byte b first stands in s, or the length of s where it does not.
-pub fn until(s: &[u8], b: u8) -> usize {
-    let mut i = 0;
-    while i < s.len() {
-        if s[i] == b {
-            return i;
-        }
-        i += 1;
-    }
-    i
-}
-
-// Whether s is the word with a space behind it, and whatever follows.
-pub fn leads(s: &[u8], word: &[u8]) -> bool {
-    let n = word.len();
-    if s.len() <= n {
-        return false;
-    }
-    if s[n] != b' ' {
-        return false;
-    }
-    begins(s, word)
-}
-
-// The first word of s: what stands before its first space.
-pub fn word(s: &[u8]) -> &[u8] {
-    front(s, until(s, b' '))
-}
-
-// What follows the first space of s: nothing where it has none.
-pub fn argument(s: &[u8]) -> &[u8] {
-    let n = until(s, b' ');
-    if n < s.len() {
-        return &s[n + 1..];
-    }
-    &s[0..0]
-}
-
-// n with the decimal digit c behind it, if c is one and the number fits.
-fn with_digit(n: u64, c: u8) -> Number {
-    if c < b'0' {
-        return Number::Wrong;
-    }
-    if b'9' < c {
-        return Number::Wrong;
-    }
-    let d = bits::byte(c - b'0');
-    if 1844674407370955161 < n {
-        return Number::Wrong;
-    }
-    let tens = n * 10;
-    if u64::MAX - tens < d {
-        return Number::Wrong;
-    }
-    Number::Is(tens + d)
 }
 
 // The number that s says in decimal, if that is all it says and the number fits.
-pub fn decimal(s: &[u8]) -> Number {
-    if s.len() == 0 {
-        return Number::Wrong;
-    }
-    let mut n: u64 = 0;
-    let mut i = 0;
-    while i < s.len() {
-        let Number::Is(more) = with_digit(n, s[i]) else {
-            return Number::Wrong;
-        };
-        n = more;
-        i += 1;
-    }
-    Number::Is(n)
-}
-
-// The same, for a number that fits 32 bits.
-pub fn decimal32(s: &[u8]) -> Number32 {
-    let Number::Is(n) = decimal(s) else {
-        return Number32::Wrong;
-    };
-    if (u32::MAX as u64) < n {
-        return Number32::Wrong;
-    }
-    Number32::Is(n as u32)
-}
-
-// What a hexadecimal digit says, or 16 where c is none.
-fn digit(c: u8) -> u8
-    ensures { result ≤ 16 }
+pub fn decimal<N: FromStr>(s: &[u8]) -> Option<N>
+where
+    N::Err: Drop,
+    ensures { IfSome result (λ n. (slice_index s.now 0 ≢ 43) × N.from_str_gives s.now (Ok n)) }
 {
-    match c {
-        b'0'..=b'9' => c - b'0',
-        b'a'..=b'f' => c - b'a' + 10,
-        b'A'..=b'F' => c - b'A' + 10,
-        _ => 16,
+    // `parse` takes a plus sign.
+    if s.starts_with(b"+") {
+        return None;
     }
+    str::from_utf8(s).ok()?.parse().ok()
 }
 
-// What the two digits at i and behind it say.
-fn pair_at(s: &[u8], i: usize) -> Pair {
-    if s.len() <= i {
-        return Pair::Wrong;
-    }
-    let j = i + 1;
-    if s.len() <= j {
-        return Pair::Wrong;
-    }
-    let high = digit(s[i]);
-    let low = digit(s[j]);
-    if 15 < high {
-        return Pair::Wrong;
-    }
-    if 15 < low {
-        return Pair::Wrong;
-    }
-    Pair::Byte(high * 16 + low)
+// What two hexadecimal digits say.
+fn pair(s: &[u8]) -> Option<u8> {
+    let [high, low] = s else {
+        return None;
+    };
+    let high = char::from(*high).to_digit(16)?;
+    let low = char::from(*low).to_digit(16)?;
+    Some((high * 16 + low) as u8)
 }
 
 // Whether s is one "-", with nothing but spaces around it: how no bytes are written, so that they are not mistaken for a text that was forgotten.
 fn is_dash(s: &[u8]) -> bool {
-    let mut seen = false;
-    let mut i = 0;
-    while i < s.len() {
-        let c = s[i];
-        if c != b' ' {
-            if seen {
-                return false;
-            }
-            if c != b'-' {
-                return false;
-            }
-            seen = true;
-        }
-        i += 1;
-    }
-    seen
+    s.iter().copied().filter(|c| *c != b' ').eq(*b"-")
 }
 
 // How many bytes a text may say: twice what a sheet has, so that one too long is judged and not misread.
-pub const BYTES: usize = 8192;
+pub const ROOM: usize = 8192;
 
-// Puts the bytes that s says at the front of buf. Spaces and "|" may stand between the pairs, before them and behind them, but not inside one. A text
-// with no pair is wrong, but for one "-" (no bytes), and so is one with more bytes than buf has room for.
-pub fn hex_into(s: &[u8], buf: &mut [u8; BYTES]) -> Hex {
+pub type Bytes = ArrayVec<u8, ROOM>;
+
+// The bytes that s says. Spaces and "|" may stand between the pairs, before them and behind them, but not inside one. A text with no pair says nothing,
+// but for one "-" (no bytes), and so does one with more bytes than there is room for.
+pub fn from_hex(s: &[u8]) -> Option<Bytes> {
+    let mut said = Bytes::new();
     if is_dash(s) {
-        return Hex::Bytes(0);
+        return Some(said);
     }
-    let mut n: usize = 0;
-    let mut i = 0;
-    while i < s.len() {
-        let c = s[i];
-        if (c == b' ') | (c == b'|') {
-            i += 1;
-            continue;
+    for part in s.split(|c| *c == b' ' || *c == b'|') {
+        for digits in part.chunks(2) {
+            if said.is_full() {
+                return None;
+            }
+            said.push(pair(digits)?);
         }
-        if BYTES <= n {
-            return Hex::Wrong;
-        }
-        let Pair::Byte(b) = pair_at(s, i) else {
-            return Hex::Wrong;
-        };
-        buf[n] = b;
-        n += 1;
-        i += 2;
     }
-    if n == 0 {
-        return Hex::Wrong;
+    if said.is_empty() {
+        return None;
     }
-    Hex::Bytes(n)
-}
-
-// The first n bytes of a buffer that hex_into filled.
-pub fn held(buf: &[u8; BYTES], n: usize) -> &[u8] {
-    front(buf, n)
+    Some(said)
 }
