@@ -14,7 +14,7 @@ pub fn has(x: u32, e: usize) -> bool
     requires { e < events_most }
     ensures { result ≡ mem e x }
 {
-    bits::bit(bits::wide(x), e)
+    bits::bit(u64::from(x), e)
 }
 
 // x with event e.

@@ -14,22 +14,10 @@ pub const NODES: usize = 64;
 
 pub const SHEET: usize = 4096;
 
-// Its records: the mark, and the kinds, 1 to the last of these.
+// Its records: the mark. Their kinds are `records::Kind`.
 pub const MARK_FIRST: u8 = 0xB4;
 
 pub const MARK_SECOND: u8 = 0x4D;
-
-pub const KINDS: usize = 5;
-
-pub const COUNT: u8 = 1;
-
-pub const CAUSE: u8 = 2;
-
-pub const CONFLICT: u8 = 3;
-
-pub const ROOT: u8 = 4;
-
-pub const NODE: u8 = 5;
 
 // Its nodes: kinds below this.
 pub const NODE_KINDS: usize = 8;
@@ -64,12 +52,10 @@ pub const SESSION: usize = 7;
 
 pub const SET_AT: usize = 3;
 
-// The bytes of a count, of a row and of a set in it.
+// The bytes of a count and of a row in it.
 pub const COUNT_BYTES: usize = 4;
 
 pub const ROW_BYTES: usize = 8;
-
-pub const SET_BYTES: usize = 4;
 
 // The bits of the word that a row is kept in.
 pub const WORD_BITS: usize = 64;

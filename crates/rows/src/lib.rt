@@ -15,8 +15,8 @@ fn node_bit(s: &Sheet, before: u64, x: u32, now: u64, n: usize) -> bool
     ensures { result ≡ node_bit (rules_in s.now) before x now n ((rules_in s.now).node n) }
 {
     let v = s.node[n];
-    let a = bits::small(v.left);
-    let b = bits::small(v.right);
+    let a = usize::from(v.left);
+    let b = usize::from(v.right);
     // A kind is a number, since a stored sheet may hold any: what is above 7 is turned away as 20, before any row is made.
     match v.kind {
         1 => events::has(x, a),

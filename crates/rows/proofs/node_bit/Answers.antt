@@ -7,4 +7,4 @@ use Rattle.rows.proofs.node_bit.Goals as goal
 
 pub returns-in-2 : goal.returns-in-2
 unfolding rules_in node_of node_kind node_kinds node_bit
-returns-in-2 c = rw (c.possible.ensures, c.small-a.ensures, c.in-2.is)
+returns-in-2 c = rw (c.possible.ensures, c.from-a.ensures, c.in-2.is)
