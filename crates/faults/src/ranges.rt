@@ -15,7 +15,7 @@ fn pair_ok(a: u8, b: u8, events: usize) -> bool
     a < b && usize::from(b) < events
 }
 
-// Whether a node names events of the sheet, and uses earlier nodes only.
+// Whether a node names events of the sheet, and uses earlier nodes only. Its kind is a number, since stored sheets are asked too, and may hold any.
 #[tactic(auto, using(crate::proofs::Range::one_event, crate::proofs::Range::one_node, crate::proofs::Range::two_nodes, crate::proofs::Range::no_operand))]
 pub fn node_ok(kind: u8, a: u8, b: u8, events: usize, earlier: usize) -> bool
     ensures { result ≡ node_in_range events earlier (node_of kind a b) }

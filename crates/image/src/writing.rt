@@ -6,7 +6,7 @@ ghost use Rattle.image.specs.Parts.{image_length, one_session};
 
 use crate::reading::Header;
 
-// The mark, and a kind behind it.
+// The mark, and a kind behind it: the byte itself, as it is written and compared.
 pub fn head_of(kind: u8) -> [u8; limits::SET_AT]
     ensures { result ≡ head_by kind }
 {

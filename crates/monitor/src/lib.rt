@@ -19,10 +19,11 @@ pub struct Monitor {
     pub sheet: Sheet,
     pub total: u32,
     pub gone: u32,
+    // How many places are in use: beside them, since a stored state may say any number, and more than there are places is turned away as 20.
     pub kept: usize,
     // The row of truths at the last session let go, 0 if there is none.
     pub carried: u64,
-    // For each kept session, oldest first, its set and its row; unused places hold 0.
+    // For each kept session, oldest first, its set and its row; unused places hold 0. Two arrays, since an image has the sets alone, and rows are made of them.
     pub sets: [u32; Monitor::KEPT],
     pub rows: [u64; Monitor::KEPT],
 }

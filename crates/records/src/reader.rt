@@ -36,7 +36,7 @@ impl<'a> Reader<'a> {
     }
 }
 
-// What stands at a place, read through a reader: loading stands on this.
+// What stands at a place, read through a reader: loading and searching stand on this, and keep the place, which a record moves by its own length.
 pub fn read_at(s: &[u8], at: usize) -> Result<Frame, Refusal>
     ensures { answer result ≡ framed_at s.now at }
 {

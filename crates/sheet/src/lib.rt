@@ -1,4 +1,4 @@
-// The loader: from a sheet's bytes to a loaded sheet, or the number of the refusal. One pass, record by record; the earliest faulty record decides.
+// The loader: from a sheet's bytes to a loaded sheet, or a refusal. One pass, record by record; the earliest faulty record decides.
 #![tactic(auto)]
 
 ghost use Rattle.std.specs.Prelude.{◌≡◌, ◌<◌};
@@ -15,7 +15,7 @@ use refusals::Refusal;
 
 mod soundness;
 
-// A node as numbers: its kind and its operands, 0 where it has none.
+// A node as numbers: its kind and its operands, 0 where it has none. Numbers, since a stored sheet may hold any kind: one above 7 is turned away as 20.
 #[derive(Clone, Copy)]
 pub struct Node {
     pub kind: u8,
@@ -27,11 +27,11 @@ pub struct Node {
 #[derive(Clone, Copy)]
 pub struct Sheet {
     pub events: usize,
-    // For each event the set of those that it needs, and of those that it conflicts with.
+    // For each event the set of those that it needs, and of those that it conflicts with: two relations, each asked alone, and so two tables.
     pub needs: [u32; limits::EVENTS],
     pub conflicts: [u32; limits::EVENTS],
+    // So many nodes stand in `node`, and zeroes behind them. A stored sheet may say any number here, which 20 turns away: so it stands beside the places.
     pub nodes: usize,
-    // The nodes, and zeroes behind them.
     pub node: [Node; limits::NODES],
 }
 
