@@ -1,14 +1,6 @@
 -- A framed record: what its frame says of the sheet's bytes.
 -- Assumes nothing.
-use Prim.Native.Nat.{ℕ, ◌+◌, ◌≤◌, ◌<◌}
-use mathlib.Core.Path.{◌≡◌, refl, sym, ap, ap₂, ◌∙◌, subst}
-use mathlib.Core.Bool.{Bool, true, not, ◌&&◌, ◌||◌}
-use mathlib.Core.List.{List}
-use native.Mathlib.Omega.{arith}
-use lib.Dec.{leb}
-use lib.ListN.{length, get_or, take, drop, length-drop, length-take}
-use lib.Seq.{drop-drop}
-use borrow.Author.Tests.{eq-eqb, leb-true}
+use Rattle.std.proofs.Common.{ℕ, ◌+◌, ◌≤◌, ◌<◌, ◌≡◌, refl, sym, ap, ap₂, ◌∙◌, subst, Bool, true, not, ◌&&◌, ◌||◌, List, arith, leb, length, get_or, take, drop, length-drop, length-take, drop-drop, eq-eqb, leb-true}
 use Rattle.meaning.specs.Limits.{root_least, of_root, of_node}
 use Rattle.meaning.specs.Records.{marked, kind_of}
 use Rattle.meaning.specs.Sheet.{kinds, kind_at, known_kind, node_fits, payload, behind, whole, fits, framed, kind_number, item_of, item_at}

@@ -1,12 +1,6 @@
 -- The order of keys, byte by byte.
 -- Assumes nothing.
-use Prim.Native.Nat.{ℕ}
-use mathlib.Core.Path.{◌≡◌, refl}
-use mathlib.Core.Bool.{Bool, ◌||◌}
-use mathlib.Core.List.{List, [], ◌∷◌}
-use mathlib.Core.Logic.{◌⊎◌, inl, inr}
-use native.Mathlib.Omega.{arith}
-use lib.ListN.{get_or, drop}
+use Rattle.std.proofs.Common.{ℕ, ◌≡◌, refl, Bool, ◌||◌, List, [], ◌∷◌, ◌⊎◌, inl, inr, arith, get_or, drop}
 use Rattle.std.specs.Prelude.{Some}
 use Rattle.std.specs.Ordering.{nat_cmp, is_lt, is_some_and, partial_ordering_then}
 use Rattle.std.specs.Cmp.Lexicographic.{slice_partial_cmp}

@@ -1,11 +1,6 @@
 -- Numbers in range: what a payload of each kind says.
 -- Assumes nothing.
-use Prim.Native.Nat.{ℕ, ◌<◌}
-use mathlib.Core.Path.{◌≡◌}
-use mathlib.Core.Bool.{true, ◌&&◌}
-use mathlib.Core.Logic.{◌⊎◌, inl, inr}
-use native.Mathlib.Omega.{arith}
-use lib.Dec.{ltb}
+use Rattle.std.proofs.Common.{ℕ, ◌<◌, ◌≡◌, true, ◌&&◌, ◌⊎◌, inl, inr, arith, ltb}
 use Rattle.meaning.specs.Rules.{node_in_range}
 use Rattle.meaning.specs.Sheet.{node_kinds, node_kind, node_of}
 use Rattle.laws.proofs.Nodes.{node_else}

@@ -1,14 +1,7 @@
 -- What the meaning says of bytes and of paths, in the library's words.
 -- Assumes nothing.
-use Prim.Native.Nat.{ℕ, suc}
-use mathlib.Core.Path.{◌≡◌, refl, sym, ap, ◌∙◌}
-use mathlib.Core.Bool.{Bool, true, false, ◌&&◌, ◌||◌}
-use mathlib.Core.List.{List, [], ◌∷◌}
-use native.Mathlib.Omega.{arith}
-use lib.Dec.{eqb}
-use lib.ListN.{length, take, drop}
+use Rattle.std.proofs.Common.{ℕ, suc, ◌≡◌, refl, sym, ap, ◌∙◌, Bool, true, false, ◌&&◌, ◌||◌, List, [], ◌∷◌, arith, eqb, length, take, drop, ne_eqb}
 use lib.Pointwise.{pointwise}
-use borrow.Author.Tests.{ne_eqb}
 use Rattle.std.specs.List.{list_any, list_all, slice_split, onto_first}
 use Rattle.meaning.specs.Lists.{all, is_empty, contains, same}
 use Rattle.meaning.specs.Path.{slash, segment_ok, prepend, segments, well_formed}

@@ -1,12 +1,9 @@
 -- An event that can be added to an allowed session leaves it allowed.
 -- Assumes nothing.
-use Prim.Native.Nat.{ℕ, ◌^◌, ◌<◌}
-use mathlib.Core.Path.{◌≡◌, refl, sym, ap, ◌∙◌, subst}
-use mathlib.Core.Bool.{Bool, true, false, false≢true, not, ◌&&◌, ◌||◌}
-use lib.Dec.{eqb}
+use Rattle.std.proofs.Common.{ℕ, ◌^◌, ◌<◌, ◌≡◌, refl, sym, ap, ◌∙◌, subst, Bool, true, false, not, ◌&&◌, ◌||◌, eqb, eqb-true}
+use Rattle.std.proofs.Math.Bool.{false≢true}
 use lib.Bits.{or_lt}
-use lib.Pow.{pow-lt}
-use borrow.Author.Tests.{eqb-true}
+use Rattle.std.proofs.Math.Pow.{pow-lt}
 use Rattle.meaning.specs.Sets.{mem, added, within, apart}
 use Rattle.meaning.specs.Rules.{Rules}
 use Rattle.meaning.specs.Events.{possible, supported, allowed}

@@ -1,13 +1,7 @@
 -- Check and counts: what the monitor of a history answers is what the history says.
 -- Assumes nothing.
-use Prim.Native.Nat.{ℕ, suc, ◌+◌, ◌-◌, ◌≤◌}
-use mathlib.Core.Path.{◌≡◌, refl, sym, ap, ap₂, ◌∙◌}
-use mathlib.Core.Bool.{Bool, true, false, cond}
-use mathlib.Core.List.{List, [], ◌∷◌, append-nil}
-use native.Mathlib.Omega.{arith}
-use lib.Dec.{eqb}
-use lib.ListN.{length, get_or, drop}
-use borrow.Author.Tests.{eqb-true, eqb-false, ne_eqb}
+use Rattle.std.proofs.Common.{ℕ, suc, ◌+◌, ◌-◌, ◌≤◌, ◌≡◌, refl, sym, ap, ap₂, ◌∙◌, Bool, true, false, cond, List, [], ◌∷◌, append-nil, arith, eqb, length, get_or, drop, eqb-true, ne_eqb}
+use borrow.Author.Tests.{eqb-false}
 use Rattle.meaning.specs.Sets.{mem}
 use Rattle.meaning.specs.Rules.{Rules}
 use Rattle.meaning.specs.Policy.{node_holds, row, or_one_empty, last_row, satisfies}

@@ -1,15 +1,7 @@
 -- Begin: what the monitor of a history answers is what the history says.
 -- Assumes nothing.
-use Prim.Native.Nat.{ℕ, ◌+◌, ◌^◌, ◌<◌}
-use mathlib.Core.Path.{◌≡◌, refl, sym, ap, ◌∙◌, subst}
-use mathlib.Core.Bool.{Bool, true, false, cond}
-use mathlib.Core.List.{List, [], ◌∷◌, ◌++◌}
-use native.Mathlib.Omega.{arith}
-use lib.Dec.{eqb, leb, ltb}
-use lib.ListN.{length, take, length-append}
-use lib.Pow.{pow_pos}
-use lib.Seq.{take-append-le}
-use borrow.Author.Tests.{lt-ltb, leb-false, eqb-true}
+use Rattle.std.proofs.Common.{ℕ, ◌+◌, ◌^◌, ◌<◌, ◌≡◌, refl, sym, ap, ◌∙◌, subst, Bool, true, false, cond, List, [], ◌∷◌, ◌++◌, arith, eqb, leb, ltb, length, take, length-append, pow_pos, lt-ltb, leb-false, eqb-true}
+use Rattle.std.proofs.Math.Seq.{take-append-le}
 use Rattle.meaning.specs.Rules.{Rules}
 use Rattle.meaning.specs.Events.{allowed}
 use Rattle.meaning.specs.Limits.{kept_most, total_most}

@@ -1,16 +1,8 @@
 -- Saving and restoring, of a history: what is saved is the history's image, and restoring it makes the monitor of the history again.
 -- Assumes nothing.
-use Prim.Native.Nat.{ℕ, zero, suc, ◌+◌, ◌-◌, ◌^◌, ◌≤◌, ◌<◌}
-use mathlib.Core.Path.{◌≡◌, refl, sym, ap, ap₂, ◌∙◌}
-use mathlib.Core.Bool.{Bool, true, false, cond}
-use mathlib.Core.List.{List, [], ◌∷◌, ◌++◌}
-use native.Mathlib.Nat.{zero-add, suc-add}
-use native.Mathlib.Omega.{arith}
-use lib.Dec.{ltb, eqb}
-use lib.Pow.{pow_pos, pow_mono}
-use lib.ListN.{length, get_or, drop, replicate, length-replicate}
-use lib.Seq.{get_or-drop}
-use borrow.Author.Tests.{ltb-true, lt-ltb, lt-leb}
+use Rattle.std.proofs.Common.{ℕ, zero, suc, ◌+◌, ◌-◌, ◌^◌, ◌≤◌, ◌<◌, ◌≡◌, refl, sym, ap, ap₂, ◌∙◌, Bool, true, false, cond, List, [], ◌∷◌, ◌++◌, zero-add, suc-add, arith, ltb, eqb, pow_pos, pow_mono, length, get_or, drop, replicate, get_or-drop, ltb-true, lt-ltb}
+use Rattle.std.proofs.Math.ListN.{length-replicate}
+use borrow.Author.Tests.{lt-leb}
 use Rattle.laws.proofs.Quantifiers.{and_left, and_right, and_both}
 use Rattle.laws.proofs.SetLaws.{set_of_lt}
 use Rattle.meaning.specs.Lists.{all}

@@ -1,11 +1,6 @@
 -- Tests of every element of a list.
 -- Assumes nothing.
-use Prim.Native.Nat.{ℕ, zero, suc, ◌<◌}
-use mathlib.Core.Path.{◌≡◌, refl}
-use mathlib.Core.Bool.{Bool, true}
-use mathlib.Core.List.{List, [], ◌∷◌, ◌++◌}
-use native.Mathlib.Nat.{not-suc-le-zero, le_of_suc-le-suc}
-use lib.ListN.{length, get_or, set}
+use Rattle.std.proofs.Common.{ℕ, zero, suc, ◌<◌, ◌≡◌, refl, Bool, true, List, [], ◌∷◌, ◌++◌, not-suc-le-zero, le_of_suc-le-suc, length, get_or, set}
 use Rattle.meaning.specs.Lists.{all}
 use Rattle.laws.proofs.Quantifiers.{and_left, and_right, and_both}
 

@@ -1,15 +1,10 @@
 -- What a loaded sheet says is what the sheet says; and what follows for rules from a sheet that is sound.
 -- Assumes nothing.
-use Prim.Native.Nat.{ℕ, ◌^◌, ◌≤◌, ◌<◌}
-use mathlib.Core.Path.{◌≡◌, refl, sym, ap, ◌∙◌, subst, fun_ext}
-use mathlib.Core.Bool.{Bool, true, false, false≢true, not, ◌&&◌, ◌||◌}
-use mathlib.Core.List.{List}
-use mathlib.Core.Logic.{⊎_elim}
-use native.Mathlib.Omega.{arith}
-use lib.Dec.{eqb, leb, ltb}
-use lib.ListN.{length, get_or, get_or-eq_default}
-use lib.Pow.{pow_pos}
-use borrow.Author.Tests.{ltb-true, ltb-false, eqb-true, not-true}
+use Rattle.std.proofs.Common.{ℕ, ◌^◌, ◌≤◌, ◌<◌, ◌≡◌, refl, sym, ap, ◌∙◌, subst, Bool, true, false, not, ◌&&◌, ◌||◌, List, ⊎_elim, arith, eqb, leb, ltb, length, get_or, pow_pos, ltb-true, ltb-false, eqb-true}
+use Rattle.std.proofs.Math.Path.{fun_ext}
+use Rattle.std.proofs.Math.Bool.{false≢true}
+use Rattle.std.proofs.Math.ListN.{get_or-eq_default}
+use borrow.Author.Tests.{not-true}
 use Rattle.meaning.specs.Limits.{events_most, nodes_most}
 use Rattle.meaning.specs.Sets.{every, mem, set_of, within, apart}
 use Rattle.meaning.specs.Rules.{Node, Rules, node_in_range, in_order}

@@ -1,11 +1,6 @@
 -- A policy "never e": once some session holds e, every check tells deny until the history is put back.
 -- Assumes nothing.
-use Prim.Native.Nat.{ℕ, ◌-◌, ◌≤◌}
-use mathlib.Core.Path.{◌≡◌, refl, ap, ◌∙◌}
-use mathlib.Core.Bool.{Bool, true, false, not, ◌&&◌}
-use mathlib.Core.List.{List, [], ◌∷◌}
-use native.Mathlib.Omega.{arith}
-use lib.ListN.{length, get_or}
+use Rattle.std.proofs.Common.{ℕ, ◌-◌, ◌≤◌, ◌≡◌, refl, ap, ◌∙◌, Bool, true, false, not, ◌&&◌, List, [], ◌∷◌, arith, length, get_or}
 use borrow.Author.Tests.{not-true}
 use Rattle.meaning.specs.Sets.{mem}
 use Rattle.meaning.specs.Rules.{Node, Rules}

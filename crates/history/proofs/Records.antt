@@ -1,14 +1,9 @@
 -- Record: what the monitor of a history answers is what the history says, of any session and any event.
 -- Assumes nothing.
-use Prim.Native.Nat.{ℕ, ◌+◌, ◌-◌, ◌^◌, ◌≤◌, ◌<◌}
-use mathlib.Core.Path.{◌≡◌, refl, sym, ap, ap₂, ◌∙◌, subst}
-use mathlib.Core.Bool.{Bool, true, false, false≢true, not, cond, ◌||◌}
-use mathlib.Core.List.{List}
-use native.Mathlib.Omega.{arith}
-use lib.Dec.{eqb, leb, ltb}
-use lib.ListN.{length, get_or, set, take, drop, length-drop, length-set}
-use lib.Seq.{get_or-drop, take-set-le}
-use borrow.Author.Tests.{lt-ltb, ltb-true, ltb-false, leb-true, leb-false, eqb-true, eqb-false, not-false}
+use Rattle.std.proofs.Common.{ℕ, ◌+◌, ◌-◌, ◌^◌, ◌≤◌, ◌<◌, ◌≡◌, refl, sym, ap, ap₂, ◌∙◌, subst, Bool, true, false, not, cond, ◌||◌, List, arith, eqb, leb, ltb, length, get_or, set, take, drop, length-drop, length-set, get_or-drop, lt-ltb, ltb-true, ltb-false, leb-true, leb-false, eqb-true}
+use Rattle.std.proofs.Math.Bool.{false≢true}
+use Rattle.std.proofs.Math.Seq.{take-set-le}
+use borrow.Author.Tests.{eqb-false, not-false}
 use Rattle.meaning.specs.Sets.{mem, added}
 use Rattle.meaning.specs.Rules.{Rules}
 use Rattle.meaning.specs.Events.{possible, supported, allowed, closed}

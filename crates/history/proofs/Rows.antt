@@ -1,14 +1,7 @@
 -- The rows of a part of a history, in a list.
 -- Assumes nothing.
-use Prim.Native.Nat.{ℕ, zero, suc, ◌+◌, ◌-◌, ◌≤◌}
-use mathlib.Core.Path.{◌≡◌, refl, sym, ap, ap₂, ◌∙◌}
-use mathlib.Core.Bool.{true}
-use mathlib.Core.List.{List, [], ◌∷◌, ◌++◌, append-nil}
-use native.Mathlib.Nat.{add-zero, zero-add, add-suc, suc-add}
-use native.Mathlib.Omega.{arith}
-use lib.ListN.{length, get_or, set, take, drop, length-append}
-use lib.Seq.{get_or_at, set_at, drop_at, take-take, append_snoc}
-use native.Mathlib.Numerals.{add-one}
+use Rattle.std.proofs.Common.{ℕ, zero, suc, ◌+◌, ◌-◌, ◌≤◌, ◌≡◌, refl, sym, ap, ap₂, ◌∙◌, true, List, [], ◌∷◌, ◌++◌, append-nil, add-zero, zero-add, add-suc, suc-add, arith, length, get_or, set, take, drop, length-append, drop_at, take-take, add-one}
+use Rattle.std.proofs.Math.Seq.{get_or_at, set_at, append_snoc}
 use Rattle.meaning.specs.Rules.{Rules, in_order}
 use Rattle.meaning.specs.Policy.{session, row}
 use Rattle.meaning.specs.Steps.{next_row}

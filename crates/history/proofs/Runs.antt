@@ -1,16 +1,8 @@
 -- Demand 3 is not about nothing: bytes that load have a fresh monitor, and every honest sequence of calls has answers.
 -- Assumes nothing.
+use Rattle.std.proofs.Common.{ℕ, ◌+◌, ◌-◌, ◌≡◌, refl, sym, ap, Bool, true, false, not, cond, ◌||◌, List, [], ◌∷◌, ◌⊎◌, inl, inr, eqb, leb, ltb, length, get_or, ne_eqb, Bor, MutBor}
 use Rattle.std.specs.Prelude.{Result, Ok, Err}
-use Prim.Native.Nat.{ℕ, ◌+◌, ◌-◌}
-use mathlib.Core.Path.{◌≡◌, refl, sym, ap}
-use mathlib.Core.Bool.{Bool, true, false, not, cond, ◌||◌}
-use mathlib.Core.List.{List, [], ◌∷◌}
-use mathlib.Core.Logic.{◌⊎◌, inl, inr}
-use lib.Dec.{eqb, leb, ltb}
-use lib.ListN.{length, get_or}
-use borrow.Author.Tests.{ne_eqb}
 use contract.Lifetimes.{Lfts}
-use denote.Ref.{Bor, MutBor}
 use Rattle.meaning.specs.Rules.{Rules}
 use Rattle.meaning.specs.Refusals.{Answer, good, ◌gives◌else◌}
 use Rattle.meaning.specs.Limits.{kept_most, total_most}

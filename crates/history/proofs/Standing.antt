@@ -1,13 +1,7 @@
 -- How the monitor of a history stands while a call works on it: one session more, one event more, and the front run let go.
 -- Assumes nothing.
-use Prim.Native.Nat.{ℕ, suc, ◌+◌, ◌-◌, ◌≤◌, ◌<◌}
-use mathlib.Core.Path.{◌≡◌, refl, sym, ap, ap₂, ◌∙◌}
-use mathlib.Core.Bool.{true, false}
-use mathlib.Core.List.{List, [], ◌∷◌, ◌++◌, append-nil}
-use native.Mathlib.Omega.{arith}
-use lib.ListN.{length, get_or, set, take, drop, length-append, length-drop, length-set}
-use lib.Seq.{get_or_at, get_or-drop, drop-append-le, take-append-le, take-set-le, drop-set-add, drop-drop}
-use borrow.Author.Tests.{le-ltb, eq-eqb}
+use Rattle.std.proofs.Common.{ℕ, suc, ◌+◌, ◌-◌, ◌≤◌, ◌<◌, ◌≡◌, refl, sym, ap, ap₂, ◌∙◌, true, false, List, [], ◌∷◌, ◌++◌, append-nil, arith, length, get_or, set, take, drop, length-append, length-drop, length-set, get_or-drop, drop-drop, le-ltb, eq-eqb}
+use Rattle.std.proofs.Math.Seq.{get_or_at, drop-append-le, take-append-le, take-set-le, drop-set-add}
 use Rattle.meaning.specs.Limits.{kept_most}
 use Rattle.meaning.specs.Sets.{added}
 use Rattle.meaning.specs.Rules.{Rules, in_order}

@@ -1,11 +1,7 @@
 -- Numbers as bytes: those that std gives and reads are the written ones, and the bytes of a number say it.
 -- Assumes nothing.
-use Prim.Native.Nat.{ℕ, zero, suc, ◌+◌, ◌*◌, ◌/◌, ◌%◌, ◌^◌, ◌<◌}
-use mathlib.Core.Path.{◌≡◌, refl, sym, ap, ap₂, ◌∙◌, subst}
-use mathlib.Core.List.{List, ◌∷◌}
-use native.Mathlib.Nat.{div-one, div-div-eq-div-mul, div-lt_iff_lt-mul, mod-add-div, zero-lt-suc, pow-suc}
-use native.Mathlib.Omega.{arith}
-use lib.ListN.{length, get_or}
+use Rattle.std.proofs.Common.{ℕ, zero, suc, ◌+◌, ◌*◌, ◌/◌, ◌%◌, ◌^◌, ◌<◌, ◌≡◌, refl, sym, ap, ap₂, ◌∙◌, subst, List, ◌∷◌, div-one, div-lt_iff_lt-mul, zero-lt-suc, pow-suc, arith, length, get_or}
+use Rattle.std.proofs.Math.Nat.{div-div-eq-div-mul, mod-add-div}
 use Rattle.std.proofs.lemmas.Nat.{le_bytes_4, le_bytes_8}
 use Rattle.std.specs.Int.{w32, w64, byte_at, bytes_low_first, to_le_bytes, from_le_bytes}
 use Rattle.meaning.specs.Limits.{count_length, row_length}

@@ -1,14 +1,6 @@
 -- What was written can be read back: the bytes of an image say the image.
 -- Assumes nothing.
-use Prim.Native.Nat.{ℕ, ◌+◌, ◌-◌, ◌%◌, ◌^◌, ◌≤◌, ◌<◌}
-use mathlib.Core.Path.{◌≡◌, refl, sym, ap, ap₂, ◌∙◌}
-use mathlib.Core.Bool.{Bool, true, false, not, ◌&&◌}
-use mathlib.Core.List.{List, [], ◌∷◌, ◌++◌, map, append_assoc}
-use native.Mathlib.Omega.{arith}
-use lib.Dec.{eqb, ltb}
-use lib.ListN.{length, take, drop}
-use lib.Seq.{take_at, drop_at, drop-drop}
-use borrow.Author.Tests.{ltb-true, le-ltb, eq-eqb, eqb-true}
+use Rattle.std.proofs.Common.{ℕ, ◌+◌, ◌-◌, ◌%◌, ◌^◌, ◌≤◌, ◌<◌, ◌≡◌, refl, sym, ap, ap₂, ◌∙◌, Bool, true, false, not, ◌&&◌, List, [], ◌∷◌, ◌++◌, map, append_assoc, arith, eqb, ltb, length, take, drop, take_at, drop_at, drop-drop, ltb-true, le-ltb, eq-eqb, eqb-true}
 use Rattle.laws.proofs.Quantifiers.{and_left, and_right}
 use Rattle.meaning.specs.Lists.{all}
 use Rattle.meaning.specs.Limits.{kept_most, header_kind, session_kind, head_length, count_length, row_length, set_length, total_at, gone_at, carried_at, header_length, session_length}

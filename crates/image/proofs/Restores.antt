@@ -1,12 +1,7 @@
 -- What restoring answers, in each of its four ways out.
 -- Assumes nothing.
-use Prim.Native.Nat.{ℕ, ◌-◌, ◌/◌, ◌≤◌}
-use mathlib.Core.Path.{◌≡◌, refl, sym, ap, ◌∙◌}
-use mathlib.Core.Bool.{Bool, true, false, false≢true}
-use mathlib.Core.List.{List}
-use native.Mathlib.Omega.{arith}
-use lib.ListN.{length, take, replicate}
-use borrow.Author.Tests.{ltb-false}
+use Rattle.std.proofs.Common.{ℕ, ◌-◌, ◌/◌, ◌≤◌, ◌≡◌, refl, sym, ap, ◌∙◌, Bool, true, false, List, arith, length, take, replicate, ltb-false}
+use Rattle.std.proofs.Math.Bool.{false≢true}
 use Rattle.laws.proofs.Quantifiers.{or_false}
 use Rattle.meaning.specs.Limits.{kept_most, header_length, session_length}
 use Rattle.meaning.specs.Refusals.{Answer, good, refused}

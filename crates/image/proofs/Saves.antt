@@ -1,12 +1,6 @@
 -- What saving answers, in each of its three ways out.
 -- Assumes nothing.
-use Prim.Native.Nat.{ℕ, ◌≤◌, ◌<◌}
-use mathlib.Core.Path.{◌≡◌, ap, ◌∙◌}
-use mathlib.Core.Bool.{true, false}
-use mathlib.Core.List.{List, ◌++◌}
-use lib.ListN.{length, take, drop}
-use lib.Seq.{length-take-le}
-use borrow.Author.Tests.{lt-ltb, le-ltb}
+use Rattle.std.proofs.Common.{ℕ, ◌≤◌, ◌<◌, ◌≡◌, ap, ◌∙◌, true, false, List, ◌++◌, length, take, drop, length-take-le, lt-ltb, le-ltb}
 use Rattle.meaning.specs.Refusals.{good, refused}
 use Rattle.meaning.specs.Image.{header_bytes, image_bytes}
 use Rattle.monitor.specs.declared.Monitor.{Monitor}

@@ -1,15 +1,7 @@
 -- Reading an image: its sessions one by one, and what 42 and 43 say.
 -- Assumes nothing.
-use Prim.Native.Nat.{ℕ, zero, suc, ◌+◌, ◌-◌, ◌*◌, ◌/◌, ◌%◌, ◌^◌, ◌≤◌, ◌<◌}
-use mathlib.Core.Path.{◌≡◌, refl, sym, ap, ◌∙◌}
-use mathlib.Core.Bool.{Bool, true, false, not, ◌&&◌, ◌||◌}
-use mathlib.Core.List.{List, [], ◌∷◌, ◌++◌}
-use native.Mathlib.Nat.{not-suc-le-zero, le_of_suc-le-suc}
-use native.Mathlib.Omega.{arith}
-use lib.Dec.{eqb, leb, ltb}
-use lib.ListN.{length, get_or, take, drop, length-append, length-drop, length-map, get_or-map}
-use lib.Seq.{take_at, take_all, drop_at, drop-drop}
-use borrow.Author.Tests.{leb-true, leb-false, lt-ltb, le-ltb}
+use Rattle.std.proofs.Common.{ℕ, zero, suc, ◌+◌, ◌-◌, ◌*◌, ◌/◌, ◌%◌, ◌^◌, ◌≤◌, ◌<◌, ◌≡◌, refl, sym, ap, ◌∙◌, Bool, true, false, not, ◌&&◌, ◌||◌, List, [], ◌∷◌, ◌++◌, not-suc-le-zero, le_of_suc-le-suc, arith, eqb, leb, ltb, length, get_or, take, drop, length-append, length-drop, take_at, take_all, drop_at, drop-drop, leb-true, leb-false, lt-ltb, le-ltb}
+use Rattle.std.proofs.Math.ListN.{length-map, get_or-map}
 use Rattle.meaning.specs.Limits.{kept_most, header_kind, session_kind, head_length, count_length, row_length, set_length, total_at, gone_at, carried_at, header_length, session_length}
 use Rattle.meaning.specs.Lists.{all}
 use Rattle.meaning.specs.Rules.{Rules}

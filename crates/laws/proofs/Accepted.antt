@@ -1,13 +1,7 @@
 -- What holds of a sheet that is accepted: it was walked to its end, and each record found it lawful.
 -- Assumes nothing.
-use Prim.Native.Nat.{ℕ, zero, suc}
-use mathlib.Core.Path.{◌≡◌, refl, sym, ap, ◌∙◌, subst}
-use mathlib.Core.Bool.{Bool, true, false, not, cond}
-use mathlib.Core.List.{List, [], ◌∷◌}
-use native.Mathlib.Omega.{arith}
-use lib.Dec.{eqb, ltb}
-use lib.ListN.{length}
-use borrow.Author.Tests.{eqb-true, eqb-false, not-false}
+use Rattle.std.proofs.Common.{ℕ, zero, suc, ◌≡◌, refl, sym, ap, ◌∙◌, subst, Bool, true, false, not, cond, List, [], ◌∷◌, arith, eqb, ltb, length, eqb-true}
+use borrow.Author.Tests.{eqb-false, not-false}
 use Rattle.meaning.specs.Lists.{is_empty}
 use Rattle.meaning.specs.Rules.{in_order}
 use Rattle.meaning.specs.Refusals.{Answer, good, refused}

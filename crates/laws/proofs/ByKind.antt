@@ -1,13 +1,6 @@
 -- Records by their kinds: a case for each, and how many there are of each.
 -- Assumes nothing.
-use Prim.Native.Nat.{ℕ, zero, suc, ◌+◌, ◌-◌}
-use mathlib.Core.Path.{◌≡◌, refl}
-use mathlib.Core.Bool.{true, false, ◌&&◌}
-use mathlib.Core.List.{List}
-use native.Mathlib.Omega.{arith}
-use lib.Dec.{leb}
-use lib.ListN.{get_or, set, length-append}
-use borrow.Author.Tests.{leb-true, ne_eqb}
+use Rattle.std.proofs.Common.{ℕ, zero, suc, ◌+◌, ◌-◌, ◌≡◌, refl, true, false, ◌&&◌, List, arith, leb, get_or, set, length-append, leb-true, ne_eqb}
 use Rattle.meaning.specs.Limits.{kind_last}
 use Rattle.meaning.specs.Records.{marked, kind_of}
 use Rattle.meaning.specs.Sheet.{Known, known_kind, kind_number, item_of, payload, Reading, also, noted, after_record, tally, disordered, whole, fits, framed}

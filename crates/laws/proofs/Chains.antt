@@ -1,14 +1,9 @@
 -- "Needs" is closed over chains: `chain` finds a chain of listed causes exactly where there is one, if each cause leads upwards.
 -- Assumes nothing.
-use Prim.Native.Nat.{ℕ, zero, suc, ◌≤◌, ◌<◌}
-use mathlib.Core.Path.{◌≡◌, refl, ◌∙◌, subst}
-use mathlib.Core.Bool.{Bool, true, false≢true, ◌&&◌, ◌||◌}
+use Rattle.std.proofs.Common.{ℕ, zero, suc, ◌≤◌, ◌<◌, ◌≡◌, refl, ◌∙◌, subst, Bool, true, ◌&&◌, ◌||◌, List, [], ◌∷◌, ◌↔◌, ⊎_elim, arith, eqb, eqb-true, eq-eqb}
+use Rattle.std.proofs.Math.Bool.{false≢true}
 use mathlib.Core.List.Memᴰ
-use mathlib.Core.List.{List, [], ◌∷◌, Memᴰ}
-use mathlib.Core.Logic.{◌↔◌, ⊎_elim}
-use native.Mathlib.Omega.{arith}
-use lib.Dec.{eqb}
-use borrow.Author.Tests.{eqb-true, eq-eqb}
+use mathlib.Core.List.{Memᴰ}
 use Rattle.meaning.specs.Sets.{mem, set_of}
 use Rattle.meaning.specs.Events.{some_pair, chain, needed_by}
 use Rattle.laws.proofs.Quantifiers.{or_cases, or_left, or_right, and_left, and_right, and_both}

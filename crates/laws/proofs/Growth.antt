@@ -1,17 +1,10 @@
 -- What one pair more says: how needs and conflicts grow while a sheet is read. A cause that is read later starts no lower than those before it,
 -- so that it ends every chain it is in; then one pass over the causes closes "needs" over chains.
 -- Assumes nothing.
-use Prim.Native.Nat.{ℕ, ◌^◌, ◌≤◌, ◌<◌}
-use mathlib.Core.Path.{◌≡◌, refl, sym, ap, ap₂, ◌∙◌, subst}
-use mathlib.Core.Bool.{Bool, true, false, ◌&&◌, ◌||◌}
+use Rattle.std.proofs.Common.{ℕ, ◌^◌, ◌≤◌, ◌<◌, ◌≡◌, refl, sym, ap, ap₂, ◌∙◌, subst, Bool, true, false, ◌&&◌, ◌||◌, List, [], ◌∷◌, ◌++◌, ◌⊎◌, inl, inr, ⊎_elim, arith, eqb, bit_or, eqb-true, eq-eqb, ne_eqb}
 use mathlib.Core.List.Memᴰ
-use mathlib.Core.List.{List, [], ◌∷◌, ◌++◌}
-use mathlib.Core.Logic.{◌⊎◌, inl, inr, ⊎_elim}
-use native.Mathlib.Omega.{arith}
-use lib.Dec.{eqb}
-use lib.Pow.{pow-lt}
-use lib.Bits.{bit_or, or_lt}
-use borrow.Author.Tests.{eqb-true, eq-eqb, ne_eqb}
+use Rattle.std.proofs.Math.Pow.{pow-lt}
+use lib.Bits.{or_lt}
 use Rattle.meaning.specs.Sets.{mem, set_of}
 use Rattle.meaning.specs.Events.{some_pair, chain, needed_by, conflicting_with}
 use Rattle.laws.proofs.Quantifiers.{or_cases, or_left, or_right, and_true}

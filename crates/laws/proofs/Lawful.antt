@@ -1,19 +1,12 @@
 -- What holds of what was read of a sheet, record by record: its pairs lead upwards, its nodes are in order, its roots are well formed and none is listed
 -- twice.
 -- Assumes nothing.
-use Prim.Native.Nat.{ℕ, zero, suc, ◌+◌, ◌-◌, ◌≤◌, ◌<◌}
-use mathlib.Core.Path.{◌≡◌, refl, sym, ap, ap₂, ◌∙◌, subst}
-use mathlib.Core.Bool.{Bool, true, false, not, cond, ◌&&◌}
+use Rattle.std.proofs.Common.{ℕ, zero, suc, ◌+◌, ◌-◌, ◌≤◌, ◌<◌, ◌≡◌, refl, sym, ap, ap₂, ◌∙◌, subst, Bool, true, false, not, cond, ◌&&◌, List, [], ◌∷◌, ◌++◌, ◌⊎◌, inl, inr, ⊎_elim, le_of_eq, le_of_suc-le-suc, eq-or-lt_of_le, add-one, arith, eqb, leb, ltb, length, get_or, set, length-append, leb-true, leb-false, ltb-true, eqb-true}
 use mathlib.Core.List.Memᴰ
-use mathlib.Core.List.{List, [], ◌∷◌, ◌++◌, Memᴰ}
-use mathlib.Core.Logic.{◌⊎◌, inl, inr, ⊎_elim}
-use native.Mathlib.Nat.{le_of_eq, le_of_suc-le-suc, eq-or-lt_of_le}
-use native.Mathlib.Numerals.{add-one}
-use native.Mathlib.Omega.{arith}
-use lib.Dec.{eqb, leb, ltb}
-use lib.ListN.{length, get_or, set, length-append, get_or-append}
-use lib.Seq.{get_or_at}
-use borrow.Author.Tests.{leb-true, leb-false, ltb-true, eqb-true, not-false}
+use mathlib.Core.List.{Memᴰ}
+use Rattle.std.proofs.Math.ListN.{get_or-append}
+use Rattle.std.proofs.Math.Seq.{get_or_at}
+use borrow.Author.Tests.{not-false}
 use Rattle.meaning.specs.Lists.{is_empty}
 use Rattle.meaning.specs.Rules.{Node, node_in_range}
 use Rattle.meaning.specs.Path.{well_formed}

@@ -1,7 +1,6 @@
 -- Node kinds: what is none of 1 to 7 makes "true".
 -- Assumes nothing.
-use Prim.Native.Nat.{ℕ, zero, suc}
-use mathlib.Core.Path.{◌≡◌, refl}
+use Rattle.std.proofs.Common.{ℕ, zero, suc, ◌≡◌, refl}
 use Rattle.meaning.specs.Rules.{Node}
 use Rattle.meaning.specs.Sheet.{node_kinds, node_kind, node_of}
 

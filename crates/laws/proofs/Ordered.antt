@@ -1,13 +1,8 @@
 -- The order of records: of their keys, and what it says of a record that is in its place.
 -- Assumes nothing.
-use Prim.Native.Nat.{ℕ, ◌≤◌, ◌<◌}
-use mathlib.Core.Path.{◌≡◌, refl, sym, ap, ◌∙◌}
-use mathlib.Core.Bool.{Bool, true, false, false≢true, not, ◌&&◌, ◌||◌}
-use mathlib.Core.List.{List, [], ◌∷◌}
-use mathlib.Core.Logic.{◌⊎◌, inl, inr, ⊎_elim}
-use native.Mathlib.Omega.{arith}
-use lib.Dec.{eqb, ltb}
-use borrow.Author.Tests.{ltb-true, ltb-false, lt-ltb, eqb-true, eq-eqb, not-false}
+use Rattle.std.proofs.Common.{ℕ, ◌≤◌, ◌<◌, ◌≡◌, refl, sym, ap, ◌∙◌, Bool, true, false, not, ◌&&◌, ◌||◌, List, [], ◌∷◌, ◌⊎◌, inl, inr, ⊎_elim, arith, eqb, ltb, ltb-true, ltb-false, lt-ltb, eqb-true, eq-eqb}
+use Rattle.std.proofs.Math.Bool.{false≢true}
+use borrow.Author.Tests.{not-false}
 use Rattle.meaning.specs.Lists.{is_empty}
 use Rattle.meaning.specs.Sheet.{Item, kind_number, key_of, ascends, disordered}
 use Rattle.laws.proofs.Quantifiers.{or_cases, or_left, or_right, or_false, and_left, and_right, and_both}

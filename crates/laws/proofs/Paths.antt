@@ -1,15 +1,7 @@
 -- Demand 2's half about paths, shown: a path is answered exactly when it lies, segment by segment, under a listed root; the longest one decides.
 -- Assumes nothing.
-use Prim.Native.Nat.{ℕ, zero, suc}
-use mathlib.Core.Path.{◌≡◌, refl, sym, ap, ◌∙◌}
-use mathlib.Core.Bool.{Bool, true, false, not, cond, ◌||◌}
-use mathlib.Core.List.{List, ◌++◌}
-use mathlib.Core.Logic.{◌⊎◌, inl, inr, ⊎_elim}
-use native.Mathlib.Nat.{eq-or-lt_of_le}
-use native.Mathlib.Omega.{arith}
-use lib.Dec.{eqb, ltb}
-use lib.ListN.{length, take}
-use borrow.Author.Tests.{leb-true, le-leb, eqb-false, ne_eqb, ltb-false, le-ltb}
+use Rattle.std.proofs.Common.{ℕ, zero, suc, ◌≡◌, refl, sym, ap, ◌∙◌, Bool, true, false, not, cond, ◌||◌, List, ◌++◌, ◌⊎◌, inl, inr, ⊎_elim, eq-or-lt_of_le, arith, eqb, ltb, length, take, leb-true, le-leb, ne_eqb, ltb-false, le-ltb}
+use borrow.Author.Tests.{eqb-false}
 use Rattle.meaning.specs.Limits.{path_most}
 use Rattle.meaning.specs.Path.{well_formed, rest_after}
 use Rattle.meaning.specs.Refusals.{Answer, good, refused}

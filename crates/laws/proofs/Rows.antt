@@ -1,18 +1,10 @@
 -- The recursive form is the written one: a row follows from the row before it and the session's set; so a row is a left fold over the sessions,
 -- and a fold may be cut in two.
 -- Assumes nothing.
-use Prim.Native.Nat.{ℕ, zero, suc, ◌+◌, ◌-◌, ◌^◌, ◌≤◌, ◌<◌}
-use mathlib.Core.Path.{◌≡◌, refl, sym, ap, ap₂, ◌∙◌}
-use mathlib.Core.Bool.{Bool, true, not, cond, ◌&&◌, ◌||◌}
-use mathlib.Core.List.{List, [], ◌∷◌, ◌++◌}
-use mathlib.Core.Logic.{⊎_elim}
-use native.Mathlib.Nat.{not-suc-le-zero, le_of_suc-le-suc, eq-or-lt_of_le}
-use native.Mathlib.Omega.{arith}
-use native.Mathlib.Numerals.{add-one}
-use lib.Dec.{ltb, leb-suc-suc}
-use lib.ListN.{length, get_or, take, length-append, get_or-append}
-use lib.Seq.{get_or_at, take-suc}
-use borrow.Author.Tests.{lt-ltb, ltb-true}
+use Rattle.std.proofs.Common.{ℕ, zero, suc, ◌+◌, ◌-◌, ◌^◌, ◌≤◌, ◌<◌, ◌≡◌, refl, sym, ap, ap₂, ◌∙◌, Bool, true, not, cond, ◌&&◌, ◌||◌, List, [], ◌∷◌, ◌++◌, ⊎_elim, not-suc-le-zero, le_of_suc-le-suc, eq-or-lt_of_le, arith, add-one, ltb, length, get_or, take, length-append, take-suc, lt-ltb, ltb-true}
+use Rattle.std.proofs.Math.Dec.{leb-suc-suc}
+use Rattle.std.proofs.Math.ListN.{get_or-append}
+use Rattle.std.proofs.Math.Seq.{get_or_at}
 use Rattle.meaning.specs.Sets.{some, mem, set_of}
 use Rattle.meaning.specs.Rules.{Node, Rules, node_in_range, in_order}
 use Rattle.meaning.specs.Policy.{Formula, session, holds, formula_of, formulas, node_holds, row}

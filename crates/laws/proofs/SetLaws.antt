@@ -1,17 +1,11 @@
 -- Sets that are written as numbers: what is in a set that was made by its members.
 -- Assumes nothing.
-use Prim.Native.Nat.{ℕ, zero, suc, ◌+◌, ◌-◌, ◌*◌, ◌/◌, ◌%◌, ◌^◌, ◌≤◌, ◌<◌, max}
-use mathlib.Core.Path.{◌≡◌, refl, sym, ap, ◌∙◌}
-use mathlib.Core.Bool.{Bool, true, false, false≢true, cond, ◌||◌}
-use mathlib.Core.Logic.{⊎_elim}
-use native.Mathlib.Nat.{not-suc-le-zero, le_of_suc-le-suc, eq-or-lt_of_le, lt_of_lt_of_le, pow-suc, div-eq_of_lt, add-mul-div_right}
-use native.Mathlib.Nat.{add-mul-mod_self_right, add_comm, one-mul, add-zero, zero-add, mod-one, mod-lt, mod-eq_of_lt}
-use native.Mathlib.Numerals.{one-add}
-use native.Mathlib.Omega.{arith}
-use lib.Dec.{eqb, ltb}
-use borrow.Author.Tests.{ltb-true, ltb-false, eqb-true, eq-eqb}
-use lib.Pow.{pow_pos, pow_mono, pow-lt, pow-add, high, mod-pow-add}
-use lib.Bits.{bit_or, or_shr, or_step}
+use Rattle.std.proofs.Common.{ℕ, zero, suc, ◌+◌, ◌-◌, ◌*◌, ◌/◌, ◌%◌, ◌^◌, ◌≤◌, ◌<◌, max, ◌≡◌, refl, sym, ap, ◌∙◌, Bool, true, false, cond, ◌||◌, ⊎_elim, not-suc-le-zero, le_of_suc-le-suc, eq-or-lt_of_le, lt_of_lt_of_le, pow-suc, add_comm, one-mul, add-zero, zero-add, mod-lt, mod-eq_of_lt, one-add, arith, eqb, ltb, ltb-true, ltb-false, eqb-true, eq-eqb, pow_pos, pow_mono, pow-add, bit_or}
+use Rattle.std.proofs.Math.Bool.{false≢true}
+use Rattle.std.proofs.Math.Nat.{div-eq_of_lt, add-mul-div_right}
+use Rattle.std.proofs.Math.Nat.{add-mul-mod_self_right, mod-one}
+use Rattle.std.proofs.Math.Pow.{pow-lt, high, mod-pow-add}
+use lib.Bits.{or_shr, or_step}
 use Rattle.meaning.specs.Limits.{set_bits}
 use Rattle.meaning.specs.Sets.{mem, set_of}
 

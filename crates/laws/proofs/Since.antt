@@ -1,12 +1,7 @@
 -- "a since b" by some j and all k: what it says, and how it follows from the session before.
 -- Assumes nothing.
-use Prim.Native.Nat.{ℕ, zero, suc, ◌≤◌, ◌<◌}
-use mathlib.Core.Path.{◌≡◌, refl, ap, ap₂, ◌∙◌}
-use mathlib.Core.Bool.{Bool, true, false, ◌&&◌, ◌||◌}
-use mathlib.Core.Logic.{◌↔◌, ⊎_elim}
-use native.Mathlib.Omega.{arith}
-use lib.Dec.{leb}
-use borrow.Author.Tests.{le-leb, lt-leb, leb-true, leb-false}
+use Rattle.std.proofs.Common.{ℕ, zero, suc, ◌≤◌, ◌<◌, ◌≡◌, refl, ap, ap₂, ◌∙◌, Bool, true, false, ◌&&◌, ◌||◌, ◌↔◌, ⊎_elim, arith, leb, le-leb, leb-true, leb-false}
+use borrow.Author.Tests.{lt-leb}
 use Rattle.meaning.specs.Sets.{some, every, some_to, every_to}
 use Rattle.laws.proofs.Quantifiers.{or_cases, or_left, or_comm, and_left, and_right, and_both, and_true, some_none, some_here, some_where, every_each, every_if, some_ext}
 

@@ -1,17 +1,11 @@
 -- What a path's answer is worth: a root covers a path exactly when the path lies under it segment by segment; an accepted path lies so under its root,
 -- no segment of it is "." or "..", and no longer root of that access covers it.
 -- Assumes nothing.
-use Prim.Native.Nat.{ℕ, ◌≤◌}
-use mathlib.Core.Path.{◌≡◌, refl, sym, ap, ap₂, ◌∙◌, subst}
-use mathlib.Core.Bool.{Bool, true, false, false≢true, not, cond, ◌&&◌, ◌||◌}
-use mathlib.Core.List.{List, [], ◌∷◌, ◌++◌, append-nil, append_assoc, Memᴰ}
-use mathlib.Core.Logic.{◌⊎◌, ◌↔◌, inl, inr, ⊎_elim}
-use native.Mathlib.Nat.{le_refl}
-use native.Mathlib.Omega.{arith}
-use lib.Dec.{eqb, ltb}
-use lib.ListN.{length, take, drop, take-append-drop}
-use lib.Seq.{take-append_seam, drop-append_seam}
-use borrow.Author.Tests.{eqb-true, eq-eqb, ltb-true, ltb-false, not-false}
+use Rattle.std.proofs.Common.{ℕ, ◌≤◌, ◌≡◌, refl, sym, ap, ap₂, ◌∙◌, subst, Bool, true, false, not, cond, ◌&&◌, ◌||◌, List, [], ◌∷◌, ◌++◌, append-nil, append_assoc, ◌⊎◌, ◌↔◌, inl, inr, ⊎_elim, le_refl, arith, eqb, ltb, length, take, drop, take-append-drop, eqb-true, eq-eqb, ltb-true, ltb-false}
+use Rattle.std.proofs.Math.Bool.{false≢true}
+use mathlib.Core.List.{Memᴰ}
+use Rattle.std.proofs.Math.Seq.{take-append_seam, drop-append_seam}
+use borrow.Author.Tests.{not-false}
 use Rattle.meaning.specs.Limits.{path_most}
 use Rattle.meaning.specs.Lists.{all, same}
 use Rattle.meaning.specs.Path.{slash, segment_ok, prepend, segments, well_formed, edge, rest_after, covers}

@@ -1,15 +1,7 @@
 -- A root covers a path: byte by byte, in the sheet's own bytes.
 -- Assumes nothing.
-use Prim.Native.Nat.{ℕ, zero, suc, ◌+◌, ◌≤◌, ◌<◌}
-use mathlib.Core.Path.{◌≡◌, refl, sym, ap, ap₂, ◌∙◌}
-use mathlib.Core.Bool.{Bool, true, false, ◌&&◌}
-use mathlib.Core.List.{List, [], ◌∷◌}
-use native.Mathlib.Nat.{suc-add}
-use native.Mathlib.Omega.{arith}
-use lib.Dec.{eqb}
-use lib.ListN.{length, get_or, take, drop, length-take, length-drop, drop_of_length-le}
-use lib.Seq.{take-nil, length-take-le, get_or-take, get_or-drop, drop-cons}
-use borrow.Author.Tests.{eq-eqb, ne_eqb}
+use Rattle.std.proofs.Common.{ℕ, zero, suc, ◌+◌, ◌≤◌, ◌<◌, ◌≡◌, refl, sym, ap, ap₂, ◌∙◌, Bool, true, false, ◌&&◌, List, [], ◌∷◌, suc-add, arith, eqb, length, get_or, take, drop, length-take, length-drop, drop_of_length-le, length-take-le, get_or-take, get_or-drop, drop-cons, eq-eqb, ne_eqb}
+use Rattle.std.proofs.Math.Seq.{take-nil}
 use Rattle.meaning.specs.Lists.{same}
 use Rattle.meaning.specs.Path.{slash, edge, rest_after, covers}
 

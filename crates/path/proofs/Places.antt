@@ -1,12 +1,6 @@
 -- The search that keeps places is the search of the meaning: without the places it finds the same root among the same roots.
 -- Assumes nothing.
-use Prim.Native.Nat.{ℕ, zero, suc, ◌+◌}
-use mathlib.Core.Path.{◌≡◌, refl, sym, ap, ◌∙◌}
-use mathlib.Core.Bool.{Bool, true, false, cond, ◌&&◌}
-use mathlib.Core.List.{List, [], ◌∷◌, ◌++◌, append_assoc, append-nil}
-use native.Mathlib.Omega.{arith}
-use lib.Dec.{eqb, ltb}
-use lib.ListN.{length, get_or}
+use Rattle.std.proofs.Common.{ℕ, zero, suc, ◌+◌, ◌≡◌, refl, sym, ap, ◌∙◌, Bool, true, false, cond, ◌&&◌, List, [], ◌∷◌, ◌++◌, append_assoc, append-nil, arith, eqb, ltb, length, get_or}
 use Rattle.meaning.specs.Limits.{of_root}
 use Rattle.meaning.specs.Path.{covers, rest_after}
 use Rattle.meaning.specs.Records.{kind_of}

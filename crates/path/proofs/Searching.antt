@@ -1,15 +1,8 @@
 -- The search: with the best so far and the records still to be read, it finds what it finds from the start.
 -- Assumes nothing.
-use Prim.Native.Nat.{ℕ, zero, suc, ◌+◌, ◌-◌, ◌≤◌, ◌<◌}
-use mathlib.Core.Path.{◌≡◌, refl, sym, ap, ap₂, ◌∙◌, subst}
-use mathlib.Core.Bool.{Bool, true, false, false≢true, cond, ◌&&◌}
-use mathlib.Core.List.{List, [], ◌∷◌, ◌++◌}
-use native.Mathlib.Nat.{add-zero}
-use native.Mathlib.Omega.{arith}
-use lib.Dec.{eqb, leb, ltb}
-use lib.ListN.{length, get_or, take, drop, drop_of_length-le}
-use lib.Seq.{drop-cons, get_or-take, get_or-drop, drop-drop}
-use borrow.Author.Tests.{eq-eqb, ne_eqb, lt-ltb, le-ltb, ltb-true, ltb-false, leb-true, leb-false, eqb-true, eqb-false}
+use Rattle.std.proofs.Common.{ℕ, zero, suc, ◌+◌, ◌-◌, ◌≤◌, ◌<◌, ◌≡◌, refl, sym, ap, ap₂, ◌∙◌, subst, Bool, true, false, cond, ◌&&◌, List, [], ◌∷◌, ◌++◌, add-zero, arith, eqb, leb, ltb, length, get_or, take, drop, drop_of_length-le, drop-cons, get_or-take, get_or-drop, drop-drop, eq-eqb, ne_eqb, lt-ltb, le-ltb, ltb-true, ltb-false, leb-true, leb-false, eqb-true}
+use Rattle.std.proofs.Math.Bool.{false≢true}
+use borrow.Author.Tests.{eqb-false}
 use Rattle.meaning.specs.Path.{edge, covers}
 use Rattle.meaning.specs.Limits.{root_least, of_root}
 use Rattle.meaning.specs.Records.{kind_of}

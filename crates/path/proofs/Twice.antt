@@ -1,8 +1,6 @@
 -- The same bytes twice in one sheet: a path that is listed for reading and for writing. Each access has the place of its own record.
 -- Assumes nothing.
-use Prim.Native.Nat.{ℕ}
-use mathlib.Core.Path.{◌≡◌, refl}
-use mathlib.Core.List.{List, [], ◌∷◌, map}
+use Rattle.std.proofs.Common.{ℕ, ◌≡◌, refl, List, [], ◌∷◌, map}
 use Rattle.meaning.specs.Lists
 use Rattle.meaning.specs.Rules
 use Rattle.meaning.specs.Records

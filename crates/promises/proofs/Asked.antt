@@ -1,6 +1,6 @@
 -- No call of a host asks anything of its caller: each statement holds as the source is read.
 -- Assumes nothing.
-use mathlib.Core.Path.{refl}
+use Rattle.std.proofs.Common.{refl}
 use Rattle.promises.specs.Asked.{SheetsAskNothing, PathsAskNothing, MonitorsAskNothing}
 
 pub sheets_ask_nothing : SheetsAskNothing

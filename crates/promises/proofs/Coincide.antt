@@ -1,7 +1,7 @@
 -- Any two answers allowed for one input coincide: each promise is an equation for the answer, or for what it says in the paper's terms, and of a part for its place.
 -- Assumes nothing.
+use Rattle.std.proofs.Common.{◌≡◌, sym, ap, ap₂, ◌∙◌}
 use Rattle.std.specs.Prelude.{Result}
-use mathlib.Core.Path.{◌≡◌, sym, ap, ap₂, ◌∙◌}
 use Rattle.refusals.specs.declared.Refusal.{Refusal}
 use Rattle.refusals.proofs.Alike.{same_answer}
 use Rattle.monitor.specs.declared.Monitor.{Monitor}

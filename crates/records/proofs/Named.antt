@@ -1,12 +1,6 @@
 -- A kind and its number: what a byte says that was read as a kind.
 -- Assumes nothing.
-use Prim.Native.Nat.{ℕ}
-use mathlib.Core.Path.{◌≡◌, refl, sym, ap, ◌∙◌}
-use mathlib.Core.Bool.{Bool, true, false, cond, ◌&&◌}
-use mathlib.Core.List.{List}
-use native.Mathlib.Omega.{arith}
-use lib.Dec.{leb}
-use borrow.Author.Tests.{leb-true}
+use Rattle.std.proofs.Common.{ℕ, ◌≡◌, refl, sym, ap, ◌∙◌, Bool, true, false, cond, ◌&&◌, List, arith, leb, leb-true}
 use Rattle.meaning.specs.Limits.{kind_last}
 use Rattle.meaning.specs.Refusals.{good, refused}
 use Rattle.meaning.specs.Sheet.{Known, known_kind, fits}

@@ -1,7 +1,7 @@
 -- Each refusal has a number of its own, and none is 0: so two answers that say the same in the paper's terms are the same.
 -- Assumes nothing.
-use Rattle.std.specs.Prelude.{ℕ, List, [], ◌∷◌, cond, eqb, Result, Ok, Err}
 use Rattle.std.proofs.Common.{◌≡◌, refl, sym, ◌∙◌, ap}
+use Rattle.std.specs.Prelude.{ℕ, List, [], ◌∷◌, cond, eqb, Result, Ok, Err}
 use Rattle.refusals.specs.declared.Refusal.{Refusal}
 use Rattle.refusals.specs.declared.Refusal.TheVariants.{SheetTooLong, BrokenRecord, OutOfOrder, OutOfRange, MalformedRoot, TooMany, NoNode, BadState, UnknownSession, UnknownEvent, SessionClosed, AlreadyThere, Conflict, CauseMissing, NoRoom, NoNumberLeft, PathLength, MalformedPath, NoRoot, UnknownAccess, ShortBuffer, MalformedImage, UnlawfulImage}
 use Rattle.refusals.specs.Numbers.{number, answer}

@@ -1,14 +1,7 @@
 -- The arms of a node: what its kind says of its operands. And a row, as it grows bit by bit.
 -- Assumes nothing.
-use Prim.Native.Nat.{ℕ, zero, suc, ◌+◌, ◌*◌, ◌%◌, ◌^◌, ◌≤◌, ◌<◌}
-use mathlib.Core.Path.{◌≡◌, ap, ◌∙◌, subst}
-use mathlib.Core.Bool.{Bool, true, cond, ◌&&◌}
-use native.Mathlib.Nat.{one-mul, mod-eq_of_lt, lt_of_lt_of_le}
-use native.Mathlib.Omega.{arith}
-use lib.Dec.{leb, ltb}
-use lib.ListN.{get_or}
-use lib.Pow.{pow-lt, pow_mono, pow_pos}
-use borrow.Author.Tests.{ltb-true, leb-true}
+use Rattle.std.proofs.Common.{ℕ, zero, suc, ◌+◌, ◌*◌, ◌%◌, ◌^◌, ◌≤◌, ◌<◌, ◌≡◌, ap, ◌∙◌, subst, Bool, true, cond, ◌&&◌, one-mul, mod-eq_of_lt, lt_of_lt_of_le, arith, leb, ltb, get_or, pow_mono, pow_pos, ltb-true, leb-true}
+use Rattle.std.proofs.Math.Pow.{pow-lt}
 use Rattle.meaning.specs.Limits.{events_most, nodes_most, node_kinds_end, word_bits}
 use Rattle.meaning.specs.Sets.{every}
 use Rattle.meaning.specs.Rules.{Rules, node_in_range}

@@ -1,13 +1,6 @@
 -- The loader's walk: what was kept and tallied stands for the lists so far, and what is left of the sheet decides the rest.
 -- Assumes nothing.
-use Prim.Native.Nat.{ℕ, zero, suc, ◌+◌, ◌-◌, ◌≤◌, ◌<◌}
-use mathlib.Core.Path.{◌≡◌, refl, sym, ap, ap₂, ◌∙◌}
-use mathlib.Core.Bool.{Bool, true, false, cond}
-use mathlib.Core.List.{List, [], ◌∷◌}
-use native.Mathlib.Omega.{arith}
-use lib.Dec.{eqb}
-use lib.ListN.{length, get_or, set, drop, length-drop, drop_of_length-le}
-use borrow.Author.Tests.{ne_eqb, le-ltb, lt-ltb}
+use Rattle.std.proofs.Common.{ℕ, zero, suc, ◌+◌, ◌-◌, ◌≤◌, ◌<◌, ◌≡◌, refl, sym, ap, ap₂, ◌∙◌, Bool, true, false, cond, List, [], ◌∷◌, arith, eqb, length, get_or, set, drop, length-drop, drop_of_length-le, ne_eqb, le-ltb, lt-ltb}
 use Rattle.meaning.specs.Lists.{is_empty}
 use Rattle.meaning.specs.Sets.{set_of}
 use Rattle.meaning.specs.Events.{needed_by, conflicting_with}

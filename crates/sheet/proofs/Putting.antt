@@ -1,13 +1,6 @@
 -- A record without fault fits the places of a loaded sheet, and can be counted.
 -- Assumes nothing.
-use Prim.Native.Nat.{ℕ, ◌<◌}
-use mathlib.Core.Path.{◌≡◌, subst}
-use mathlib.Core.Bool.{true}
-use mathlib.Core.List.{List}
-use native.Mathlib.Omega.{arith}
-use lib.Dec.{ltb}
-use lib.ListN.{length, get_or}
-use borrow.Author.Tests.{ltb-true, leb-false}
+use Rattle.std.proofs.Common.{ℕ, ◌<◌, ◌≡◌, subst, true, List, arith, ltb, length, get_or, ltb-true, leb-false}
 use Rattle.meaning.specs.Limits.{events_most, nodes_most, sheet_most, of_cause, of_conflict, of_node}
 use Rattle.meaning.specs.Sheet.{Known, item_of, Reading, kinds, kind_at, kind_number, tally, so_far, pair_in_range, in_range, item_fault}
 use Rattle.laws.proofs.Quantifiers.{and_left, and_right}

@@ -1,14 +1,7 @@
 -- What is loaded of an accepted sheet is sound.
 -- Assumes nothing.
-use Prim.Native.Nat.{ℕ, ◌^◌, ◌≤◌, ◌<◌}
-use mathlib.Core.Path.{◌≡◌, refl, sym, ap, ◌∙◌, subst}
-use mathlib.Core.Bool.{Bool, true, false, false≢true, not, ◌&&◌, ◌||◌}
-use mathlib.Core.List.{List, [], ◌∷◌}
-use mathlib.Core.Logic.{⊎_elim}
-use native.Mathlib.Omega.{arith}
-use lib.Dec.{eqb}
-use lib.ListN.{length, get_or}
-use borrow.Author.Tests.{le-leb, lt-ltb, eqb-true}
+use Rattle.std.proofs.Common.{ℕ, ◌^◌, ◌≤◌, ◌<◌, ◌≡◌, refl, sym, ap, ◌∙◌, subst, Bool, true, false, not, ◌&&◌, ◌||◌, List, [], ◌∷◌, ⊎_elim, arith, eqb, length, get_or, le-leb, lt-ltb, eqb-true}
+use Rattle.std.proofs.Math.Bool.{false≢true}
 use Rattle.meaning.specs.Limits.{events_most, nodes_most, node_kinds_end}
 use Rattle.meaning.specs.Lists.{is_empty}
 use Rattle.meaning.specs.Sets.{mem, set_of}

@@ -1,11 +1,6 @@
 -- One turn of the loader, of the record that code found at its place.
 -- Assumes nothing.
-use Prim.Native.Nat.{ℕ, ◌≤◌, ◌<◌}
-use mathlib.Core.Path.{◌≡◌, sym, ap, ◌∙◌, subst}
-use mathlib.Core.Bool.{true}
-use mathlib.Core.List.{List}
-use native.Mathlib.Omega.{arith}
-use lib.ListN.{length, drop}
+use Rattle.std.proofs.Common.{ℕ, ◌≤◌, ◌<◌, ◌≡◌, sym, ap, ◌∙◌, subst, true, List, arith, length, drop}
 use Rattle.meaning.specs.Refusals.{good, refused}
 use Rattle.meaning.specs.Records.{kind_of}
 use Rattle.meaning.specs.Sheet.{Known, payload, item_of, nothing_read, framed, item_fault, so_far, kind_at, tally, walk}

@@ -1,18 +1,10 @@
 -- Tables, and powers of two in a word.
 -- Assumes nothing.
-use Prim.Native.Nat.{ℕ, zero, suc, ◌*◌, ◌%◌, ◌^◌, ◌≤◌, ◌<◌}
-use mathlib.Core.Path.{◌≡◌, refl, sym, ap, ◌∙◌}
-use mathlib.Core.Bool.{Bool, true, false}
-use mathlib.Core.List.{[], ◌∷◌}
-use mathlib.Core.Logic.{⊎_elim}
-use native.Mathlib.Nat.{not-suc-le-zero, le_of_suc-le-suc, eq-or-lt_of_le, one-mul, mod-eq_of_lt}
-use native.Mathlib.Numerals.{add-one}
-use native.Mathlib.Omega.{arith}
-use lib.Dec.{eqb}
-use lib.ListN.{length, get_or, set, length-append, length-set, get_or-append}
-use lib.Pow.{pow-lt}
-use lib.Seq.{get_or_at, get_or-set_same, get_or-set_other, ext_get_or}
-use borrow.Author.Tests.{eqb-true, eqb-false}
+use Rattle.std.proofs.Common.{ℕ, zero, suc, ◌*◌, ◌%◌, ◌^◌, ◌≤◌, ◌<◌, ◌≡◌, refl, sym, ap, ◌∙◌, Bool, true, false, [], ◌∷◌, ⊎_elim, not-suc-le-zero, le_of_suc-le-suc, eq-or-lt_of_le, one-mul, mod-eq_of_lt, add-one, arith, eqb, length, get_or, set, length-append, length-set, get_or-set_same, get_or-set_other, ext_get_or, eqb-true}
+use Rattle.std.proofs.Math.ListN.{get_or-append}
+use Rattle.std.proofs.Math.Pow.{pow-lt}
+use Rattle.std.proofs.Math.Seq.{get_or_at}
+use borrow.Author.Tests.{eqb-false}
 use Rattle.meaning.specs.Limits.{events_most, word_bits}
 use Rattle.sheet.specs.Loads.{table_of}
 

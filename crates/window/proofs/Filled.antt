@@ -1,13 +1,8 @@
 -- Lists in the places for the kept sessions, 0 in those that are not in use.
 -- Assumes nothing.
-use Prim.Native.Nat.{ℕ, zero, suc, ◌+◌, ◌-◌, ◌≤◌, ◌<◌}
-use mathlib.Core.Path.{◌≡◌, refl, sym, ap, ap₂, ◌∙◌}
-use mathlib.Core.List.{List, [], ◌∷◌, ◌++◌, append-nil}
-use native.Mathlib.Numerals.{add-one}
-use native.Mathlib.Omega.{arith}
+use Rattle.std.proofs.Common.{ℕ, zero, suc, ◌+◌, ◌-◌, ◌≤◌, ◌<◌, ◌≡◌, refl, sym, ap, ap₂, ◌∙◌, List, [], ◌∷◌, ◌++◌, append-nil, add-one, arith, length, get_or, set, take, drop, replicate, length-append, length-drop, length-set, drop_of_length-le, length-take-le, take_at, take-suc}
 use borrow.Rule.Slice.PartMut.{put_mid}
-use lib.ListN.{length, get_or, set, take, drop, replicate, length-append, length-drop, length-set, drop_of_length-le}
-use lib.Seq.{length-take-le, take_at, take-suc, take-length, drop-append-le, set_at, set-append_left, set-append_seam, append_snoc}
+use Rattle.std.proofs.Math.Seq.{take-length, drop-append-le, set_at, set-append_left, set-append_seam, append_snoc}
 use Rattle.std.specs.List.{copy_within}
 use Rattle.meaning.specs.Limits.{kept_most}
 use Rattle.window.specs.Kept.{filled, moved}

@@ -1,12 +1,6 @@
 -- The kept sessions, step by step: the row before a place, rows made anew, the front run of closed sessions.
 -- Assumes nothing.
-use Prim.Native.Nat.{ℕ, zero, suc, ◌+◌, ◌-◌, ◌≤◌, ◌<◌}
-use mathlib.Core.Path.{◌≡◌, refl, sym, ap, ◌∙◌}
-use mathlib.Core.Bool.{Bool, true, false, cond}
-use mathlib.Core.List.{List, [], ◌∷◌}
-use native.Mathlib.Numerals.{add-one}
-use native.Mathlib.Omega.{arith}
-use lib.ListN.{length, get_or, set, take, length-take}
+use Rattle.std.proofs.Common.{ℕ, zero, suc, ◌+◌, ◌-◌, ◌≤◌, ◌<◌, ◌≡◌, refl, sym, ap, ◌∙◌, Bool, true, false, cond, List, [], ◌∷◌, add-one, arith, length, get_or, set, take, length-take}
 use Rattle.std.specs.List.{prefix_len}
 use Rattle.meaning.specs.Rules.{Rules}
 use Rattle.meaning.specs.Events.{closed}

@@ -1,10 +1,6 @@
 -- `events::closed` meets its contract.
 -- Assumes nothing.
-use mathlib.Core.Path.{refl, ◌∙◌}
-use mathlib.Core.Bool.{not}
-use native.Mathlib.Omega.{arith}
-use borrow.Author.Tests.{tests}
-use Rattle.std.proofs.Common.{rules, ℕ}
+use Rattle.std.proofs.Common.{rules, ℕ, refl, ◌∙◌, not, arith, tests}
 use Rattle.std.proofs.lemmas.Iterator.{YieldsList-from_range}
 use Rattle.std.proofs.lemmas.Iterator.Search.{all_from_yields_List}
 use Rattle.meaning.specs.Events.{addable, closed}

@@ -1,9 +1,6 @@
 -- `faults::payload` meets its contract.
 -- Assumes nothing.
-use Prim.Native.Nat.{ℕ, ◌+◌, ◌-◌}
-use mathlib.Core.Path.{◌≡◌, ap}
-use native.Mathlib.Omega.{arith}
-use lib.ListN.{take, drop}
+use Rattle.std.proofs.Common.{ℕ, ◌+◌, ◌-◌, ◌≡◌, ap, arith, take, drop}
 use Rattle.faults.specs.Tallies.{payload_in}
 use Rattle.faults.proofs.payload.Goals as goal
 

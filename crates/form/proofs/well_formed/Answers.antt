@@ -1,7 +1,6 @@
 -- `form::well_formed` meets its contract: the library's split gives the segments.
 -- Assumes nothing.
-use Rattle.std.proofs.Common.{rules, tests}
-use lib.Dec.{eqb}
+use Rattle.std.proofs.Common.{rules, tests, eqb}
 use Rattle.std.proofs.lemmas.Iterator.Splits.{YieldsList-from_slice_split}
 use Rattle.std.proofs.lemmas.Iterator.Search.{all_from_yields_List}
 use Rattle.meaning.specs.Path.{slash, segment_ok}

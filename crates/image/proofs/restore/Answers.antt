@@ -1,12 +1,6 @@
 -- `image::restore` meets its contract.
 -- Assumes nothing.
-use Prim.Native.Nat.{◌-◌, ◌/◌}
-use mathlib.Core.Path.{◌≡◌, sym, ◌∙◌}
-use mathlib.Core.Bool.{true, false}
-use native.Mathlib.Omega.{arith}
-use lib.ListN.{length, take}
-use lib.Seq.{length-take-le}
-use Rattle.std.proofs.Common.{rules}
+use Rattle.std.proofs.Common.{rules, ◌-◌, ◌/◌, ◌≡◌, sym, ◌∙◌, true, false, arith, length, take, length-take-le}
 use Rattle.monitor.proofs.States.{fit_of}
 use Rattle.meaning.specs.Limits.{kept_most, header_length, session_length}
 use Rattle.meaning.specs.Image.{said}

@@ -1,10 +1,6 @@
 -- `image::save` meets its contract.
 -- Assumes nothing.
-use Rattle.std.proofs.Common.{rules}
-use mathlib.Core.Path.{◌≡◌, sym, ◌∙◌}
-use mathlib.Core.Bool.{false}
-use native.Mathlib.Omega.{arith}
-use lib.ListN.{length}
+use Rattle.std.proofs.Common.{rules, ◌≡◌, sym, ◌∙◌, false, arith, length}
 use Rattle.monitor.specs.Calls.{bad}
 use Rattle.monitor.proofs.States.{fit_of}
 use Rattle.meaning.specs.Limits.{kept_most}

@@ -1,6 +1,6 @@
 -- `path::event_of` meets its contract.
 -- Assumes nothing.
-use mathlib.Core.Path.{refl}
+use Rattle.std.proofs.Common.{refl}
 use Rattle.std.proofs.lemmas.Result.{err_from_is_err_and}
 use Rattle.path.proofs.Asking.{event_under, event_refused}
 use Rattle.path.proofs.event_of.Goals as goal

@@ -1,8 +1,7 @@
 -- `path::find` meets its contract. The outer loop's invariant: the search goes on to what it finds from the start. The inner loop's: the root and
 -- the path agree as far as they were compared.
 -- Assumes nothing.
-use mathlib.Core.Path.{sym, ◌∙◌}
-use native.Mathlib.Omega.{arith}
+use Rattle.std.proofs.Common.{sym, ◌∙◌, arith}
 use Rattle.refusals.specs.Numbers.{number}
 use Rattle.records.proofs.Framing.{broken_says}
 use Rattle.path.proofs.Searching.{begins, ended, broken, turns, room, f_root, f_next, not_worth, differs, no_edge, wins}

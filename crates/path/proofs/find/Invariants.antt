@@ -1,9 +1,7 @@
 -- `path::find` meets its contract. The outer loop's invariant: the search goes on to what it finds from the start. The inner loop's: the root and
 -- the path agree as far as they were compared.
 -- Assumes nothing.
-use Prim.Native.Nat.{ℕ, ◌+◌, ◌≤◌, ◌<◌, ◌-◌}
-use mathlib.Core.Path.{◌≡◌}
-use lib.ListN.{length, get_or}
+use Rattle.std.proofs.Common.{ℕ, ◌+◌, ◌≤◌, ◌<◌, ◌-◌, ◌≡◌, length, get_or}
 use Rattle.path.proofs.Searching.{Searching}
 use Rattle.path.proofs.find.Given as goal
 

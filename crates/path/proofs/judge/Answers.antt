@@ -1,8 +1,6 @@
 -- `path::judge` meets its contract: each way out is a law of its own.
 -- Assumes nothing.
-use mathlib.Core.Path.{◌≡◌, sym, ◌∙◌}
-use lib.ListN.{length}
-use Rattle.std.proofs.Common.{rules}
+use Rattle.std.proofs.Common.{rules, ◌≡◌, sym, ◌∙◌, length}
 use Rattle.std.proofs.lemmas.Result.{err_from_is_err_and}
 use Rattle.path.proofs.Asking.{sheet_refused, sheet_good, asks_access, asks_empty, asks_long, asks_form, asks_found}
 use Rattle.path.proofs.judge.Goals as goal

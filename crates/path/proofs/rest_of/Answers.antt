@@ -1,7 +1,6 @@
 -- `path::rest_of` meets its contract.
 -- Assumes nothing.
-use mathlib.Core.Path.{refl, sym, ◌∙◌}
-use native.Mathlib.Omega.{arith}
+use Rattle.std.proofs.Common.{refl, sym, ◌∙◌, arith}
 use Rattle.path.proofs.Asking.{root_refused, root_length, rest_under, rest_refused, part_is}
 use Rattle.path.proofs.rest_of.Goals as goal
 

@@ -1,8 +1,6 @@
 -- `path::root_of` meets its contract.
 -- Assumes nothing.
-use Prim.Native.Nat.{◌+◌, ◌-◌}
-use mathlib.Core.Path.{refl, sym}
-use native.Mathlib.Omega.{arith}
+use Rattle.std.proofs.Common.{◌+◌, ◌-◌, refl, sym, arith}
 use Rattle.path.proofs.Asking.{root_under, root_refused, place_under, place_refused, part_is}
 use Rattle.path.proofs.root_of.Goals as goal
 

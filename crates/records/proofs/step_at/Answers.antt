@@ -1,6 +1,6 @@
 -- `records::step_at` meets its contract: where the marks and the kind are right, the payload decides.
 -- Assumes nothing.
-use mathlib.Core.Path.{sym, ap, ◌∙◌}
+use Rattle.std.proofs.Common.{sym, ap, ◌∙◌}
 use Rattle.meaning.specs.Refusals.{good}
 use Rattle.records.proofs.Framing.{framed_by, frame_is, breaks, stands}
 use Rattle.records.proofs.step_at.Goals as goal

@@ -1,11 +1,6 @@
 -- `rows::next_row` meets its contract. The loop's invariant: the row is that of the first n nodes.
 -- Assumes nothing.
-use Prim.Native.Nat.{◌<◌}
-use mathlib.Core.Path.{◌≡◌, refl, ap, ◌∙◌}
-use mathlib.Core.Bool.{true}
-use native.Mathlib.Nat.{add-zero}
-use native.Mathlib.Omega.{arith}
-use native.Mathlib.Numerals.{add-one}
+use Rattle.std.proofs.Common.{◌<◌, ◌≡◌, refl, ap, ◌∙◌, true, add-zero, arith, add-one}
 use Rattle.meaning.specs.Limits.{word_bits}
 use Rattle.meaning.specs.Steps.{row_to, next_row}
 use Rattle.sheet.specs.Sound.{rules_in}

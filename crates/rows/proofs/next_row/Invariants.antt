@@ -1,6 +1,6 @@
 -- `rows::next_row` meets its contract. The loop's invariant: the row is that of the first n nodes.
 -- Assumes nothing.
-use mathlib.Core.Path.{◌≡◌}
+use Rattle.std.proofs.Common.{◌≡◌}
 use Rattle.meaning.specs.Steps.{row_to}
 use Rattle.sheet.specs.Sound.{rules_in}
 use Rattle.rows.proofs.next_row.Given as goal

@@ -1,8 +1,7 @@
 -- `sheet::load` meets its contract. The loop's invariant: what was kept and tallied stands for the lists so far, and what is left of the sheet
 -- decides the rest.
 -- Assumes nothing.
-use mathlib.Core.Path.{sym, ap, ◌∙◌}
-use native.Mathlib.Omega.{arith}
+use Rattle.std.proofs.Common.{sym, ap, ◌∙◌, arith}
 use Rattle.std.proofs.lemmas.Result.{err_from_is_err_and}
 use Rattle.meaning.specs.Refusals.{refused}
 use Rattle.refusals.specs.Numbers.{number}

@@ -1,15 +1,13 @@
 -- `window::front_closed` meets its contract.
 -- Assumes nothing.
-use Rattle.std.proofs.Common.{rules, ◌≤◌, take}
+use Rattle.std.proofs.Common.{rules, ◌≤◌, take, tests, ◌∙◌}
 use Rattle.std.proofs.iter.Serving.{serving}
 use Rattle.std.proofs.lemmas.Iterator.{YieldsList-from_slice}
 use Rattle.std.proofs.lemmas.Iterator.Consumers.{count_from_yields_List}
 use Rattle.std.proofs.lemmas.Iterator.Search.{YieldsList-from_take_while}
 use Rattle.std.proofs.lemmas.List.Folds.{length-prefix_len}
-use borrow.Author.Tests.{tests}
 use Rattle.meaning.specs.Limits.{events_most}
 use Rattle.meaning.specs.Events.{closed}
-use mathlib.Core.Path.{◌∙◌}
 use Rattle.sheet.specs.Sound.{rules_in}
 use Rattle.rows.proofs.Arms.{few_events}
 use Rattle.window.proofs.Moves.{front_run}

@@ -1,8 +1,6 @@
 -- `window::moved_up` meets its contract.
 -- Assumes nothing.
-use Rattle.std.proofs.Common.{rules}
-use mathlib.Core.Path.{◌≡◌}
-use lib.ListN.{length}
+use Rattle.std.proofs.Common.{rules, ◌≡◌, length}
 use Rattle.meaning.specs.Limits.{kept_most}
 use Rattle.window.proofs.Filled.{moved_over}
 use Rattle.window.proofs.moved_up.Goals as goal

@@ -1,7 +1,6 @@
 -- `window::rows_from` meets its contract. The loop's invariant: what is still to be made anew gives the same rows.
 -- Assumes nothing.
-use mathlib.Core.Path.{sym, ◌∙◌}
-use native.Mathlib.Omega.{arith}
+use Rattle.std.proofs.Common.{sym, ◌∙◌, arith}
 use Rattle.sheet.specs.Sound.{rules_in}
 use Rattle.window.proofs.Moves.{refreshed_step, refreshed_end}
 use Rattle.window.proofs.rows_from.Goals as goal

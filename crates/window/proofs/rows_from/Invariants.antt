@@ -1,7 +1,6 @@
 -- `window::rows_from` meets its contract. The loop's invariant: what is still to be made anew gives the same rows.
 -- Assumes nothing.
-use Prim.Native.Nat.{◌-◌}
-use mathlib.Core.Path.{◌≡◌}
+use Rattle.std.proofs.Common.{◌-◌, ◌≡◌}
 use Rattle.sheet.specs.Sound.{rules_in}
 use Rattle.window.specs.Kept.{refreshed}
 use Rattle.window.proofs.rows_from.Given as goal

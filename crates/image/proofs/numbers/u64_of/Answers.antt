@@ -1,7 +1,6 @@
 -- `image::numbers::u64_of` meets its contract.
 -- Assumes nothing.
-use mathlib.Core.Path.{ap, ◌∙◌}
-use Rattle.std.proofs.Common.{rules}
+use Rattle.std.proofs.Common.{rules, ap, ◌∙◌}
 use Rattle.meaning.specs.Image.{number_of}
 use Rattle.image.proofs.Bytes.{number_of_8}
 use Rattle.image.proofs.numbers.u64_of.Goals as goal

@@ -1,6 +1,6 @@
 -- `image::reading::fine` meets its contract.
 -- Assumes nothing.
-use native.Mathlib.Omega.{arith}
+use Rattle.std.proofs.Common.{arith}
 use Rattle.rows.proofs.Arms.{few_events}
 use Rattle.image.proofs.Saying.{not_beyond, fine_is}
 use Rattle.image.proofs.reading.fine.Goals as goal

@@ -1,6 +1,6 @@
 -- `image::reading::headed` meets its contract.
 -- Assumes nothing.
-use mathlib.Core.Path.{◌∙◌}
+use Rattle.std.proofs.Common.{◌∙◌}
 use Rattle.meaning.specs.Records.{head_of}
 use Rattle.image.proofs.Parts.{headed_is}
 use Rattle.image.proofs.reading.headed.Goals as goal

@@ -1,6 +1,6 @@
 -- `image::reading::is_oldest_closed` meets its contract.
 -- Assumes nothing.
-use mathlib.Core.Path.{◌∙◌}
+use Rattle.std.proofs.Common.{◌∙◌}
 use Rattle.sheet.specs.Sound.{rules_in}
 use Rattle.rows.proofs.Arms.{few_events}
 use Rattle.image.proofs.Saying.{oldest_none, oldest_first}

@@ -1,8 +1,6 @@
 -- `image::reading::sessions_headed` meets its contract.
 -- Assumes nothing.
-use mathlib.Core.Path.{◌∙◌}
-use borrow.Author.Tests.{tests}
-use Rattle.std.proofs.Common.{rules}
+use Rattle.std.proofs.Common.{rules, ◌∙◌, tests}
 use Rattle.std.proofs.lemmas.Iterator.Search.{all_from_yields_List}
 use Rattle.meaning.specs.Limits.{session_kind}
 use Rattle.meaning.specs.Image.{headed, sessions_in}

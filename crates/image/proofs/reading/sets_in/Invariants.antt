@@ -1,8 +1,6 @@
 -- `image::reading::sets_in` meets its contract. The loop's invariant: the sets of the sessions so far are in their places, the others hold 0.
 -- Assumes nothing.
-use Prim.Native.Nat.{◌≤◌}
-use mathlib.Core.Path.{◌≡◌}
-use lib.ListN.{drop}
+use Rattle.std.proofs.Common.{◌≤◌, ◌≡◌, drop}
 use Rattle.std.specs.Slice.Iter.{chunks_exact_rest, chunks_exact_size}
 use Rattle.std.specs.Iterator.Adapters.{enumerate_source, enumerate_count}
 use Rattle.meaning.specs.Limits.{session_length}

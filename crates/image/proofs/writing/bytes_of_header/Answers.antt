@@ -1,6 +1,6 @@
 -- `image::writing::bytes_of_header` meets its contract.
 -- Assumes nothing.
-use native.Mathlib.Omega.{arith}
+use Rattle.std.proofs.Common.{arith}
 use Rattle.meaning.specs.Records.{head_of}
 use Rattle.meaning.specs.Image.{header_bytes}
 use Rattle.image.proofs.Bytes.{bytes_of_4, bytes_of_8}

@@ -1,6 +1,6 @@
 -- `image::writing::head_of` meets its contract.
 -- Assumes nothing.
-use mathlib.Core.Path.{refl}
+use Rattle.std.proofs.Common.{refl}
 use Rattle.meaning.specs.Records.{head_of}
 use Rattle.image.proofs.writing.head_of.Goals as goal
 

@@ -1,8 +1,6 @@
 -- `image::writing::put` meets its contract. The loop's invariant: the header and the sessions so far are put.
 -- Assumes nothing.
-use Prim.Native.Nat.{◌+◌, ◌-◌}
-use mathlib.Core.Path.{◌≡◌, refl}
-use native.Mathlib.Omega.{arith}
+use Rattle.std.proofs.Common.{◌+◌, ◌-◌, ◌≡◌, refl, arith}
 use Rattle.meaning.specs.Limits.{session_length}
 use Rattle.image.proofs.Putting.{put_front, put_more}
 use Rattle.image.proofs.writing.put.Goals as goal

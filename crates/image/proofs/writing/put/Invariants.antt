@@ -1,6 +1,6 @@
 -- `image::writing::put` meets its contract. The loop's invariant: the header and the sessions so far are put.
 -- Assumes nothing.
-use mathlib.Core.Path.{◌≡◌}
+use Rattle.std.proofs.Common.{◌≡◌}
 use Rattle.image.specs.Parts.{image_length}
 use Rattle.image.proofs.Putting.{putting}
 use Rattle.image.proofs.writing.put.Given as goal

@@ -1,7 +1,6 @@
 -- `monitor::Monitor::begin` meets its contract.
 -- Assumes nothing.
-use mathlib.Core.Path.{sym}
-use native.Mathlib.Omega.{arith}
+use Rattle.std.proofs.Common.{sym, arith}
 use Rattle.monitor.proofs.States.{roomy, fit_opened}
 use Rattle.monitor.proofs.Monitor.begin.Goals as goal
 

@@ -1,7 +1,6 @@
 -- `monitor::Monitor::check` meets its contract.
 -- Assumes nothing.
-use mathlib.Core.Path.{sym, ◌∙◌}
-use native.Mathlib.Omega.{arith}
+use Rattle.std.proofs.Common.{sym, ◌∙◌, arith}
 use Rattle.monitor.proofs.States.{fit_of}
 use Rattle.rows.proofs.Arms.{some_nodes, few_nodes}
 use Rattle.monitor.proofs.Monitor.check.Goals as goal

@@ -1,6 +1,6 @@
 -- `monitor::Monitor::record` meets its contract.
 -- Assumes nothing.
-use mathlib.Core.Path.{sym}
+use Rattle.std.proofs.Common.{sym}
 use Rattle.monitor.proofs.States.{fit_written, places}
 use Rattle.monitor.proofs.Monitor.record.Goals as goal
 

@@ -1,6 +1,6 @@
 -- `monitor::Monitor::record_fault` meets its contract.
 -- Assumes nothing.
-use mathlib.Core.Path.{sym, ◌∙◌}
+use Rattle.std.proofs.Common.{sym, ◌∙◌}
 use Rattle.monitor.proofs.States.{fit_of}
 use Rattle.monitor.proofs.Monitor.record_fault.Goals as goal
 

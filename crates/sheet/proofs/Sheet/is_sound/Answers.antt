@@ -1,7 +1,6 @@
 -- `Sheet::is_sound` meets its contract: the library's `all` over a range is `every`.
 -- Assumes nothing.
-use Rattle.std.proofs.Common.{rules, tests, ◌≡◌, arith, refl}
-use mathlib.Core.Path.{◌∙◌}
+use Rattle.std.proofs.Common.{rules, tests, ◌≡◌, arith, refl, ◌∙◌}
 use Rattle.meaning.specs.Sets.{every}
 use Rattle.std.proofs.lemmas.Bool.Decides.{nat_tests}
 use Rattle.std.proofs.lemmas.Iterator.{YieldsList-from_range}
