@@ -5,6 +5,7 @@ ghost use Rattle.std.specs.Prelude.{◌≡◌, IfNone};
 
 use monitor::Monitor;
 
+// The lowest bits of a number, for a field that has fewer: std's conversions refuse what does not fit, and `as` has to lose nothing.
 fn low32(v: u64) -> u32 {
     (v & 0xFFFF_FFFF) as u32
 }
