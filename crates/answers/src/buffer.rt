@@ -23,9 +23,10 @@ pub struct Gathering<'a, W: Write> {
 }
 
 impl<'a, W: Write> Gathering<'a, W> {
-    // Nothing waits yet.
+    // Nothing waits yet, and nothing was written.
     pub fn new(to: &'a mut W) -> Self
-        ensures { result.waiting.items ≡ [] }
+        ensures empty { result.waiting.items ≡ [] }
+        ensures same { result.to.now ≡ to.entry.now }
     {
         Gathering {
             to,

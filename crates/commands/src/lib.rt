@@ -1,7 +1,7 @@
 // Runs the library on commands: takes the input line by line, and writes one line for each command. A line is run by `lines`.
 #![tactic(auto)]
 
-ghost use Rattle.std.specs.Prelude.{OnErr};
+ghost use Rattle.std.specs.Prelude.{◌≡◌, ◌⊎◌, [], OnErr};
 ghost use Rattle.answers.specs.Gathered.{Full};
 
 use answers::buffer::Gathering;
@@ -37,6 +37,15 @@ fn gather(line: &mut Line, bytes: &[u8]) {
 }
 
 impl<'a, W: Write> Run<'a, W> {
+    // Reads the next piece of the input, and says how many bytes it has: none where the input has ended. What is to be written is written first, since
+    // reading may wait: so another program can send a command, read its answer, and only then send the next.
+    fn more<R: Read>(&mut self, from: &mut R, piece: &mut [u8]) -> io::Result<usize>
+        ensures err { OnErr result ((self.new.out.waiting.items ≡ self.old.out.waiting.items) ⊎ (self.new.out.waiting.items ≡ [])) }
+    {
+        self.out.flush()?;
+        from.read(piece)
+    }
+
     // Runs the line, and begins the next. An empty one and a comment, however long, are passed over.
     fn finish(&mut self) -> io::Result<()>
         ensures err { OnErr result (Full self.new.out) }
@@ -77,9 +86,7 @@ pub fn serve<R: Read, W: Write>(from: &mut R, to: &mut W) -> io::Result<()> {
     let mut piece = [0; PIECE];
     // Nothing says that an input ends, so the turns are counted, up to a number that no run reaches.
     for _ in 0..u64::MAX {
-        // Reading may wait, so what is to be written is written first: so another program can send a command, read its answer, and only then send the next.
-        run.out.flush()?;
-        let n = from.read(&mut piece)?;
+        let n = run.more(from, &mut piece)?;
         if n == 0 {
             break;
         }

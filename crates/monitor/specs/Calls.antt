@@ -107,10 +107,11 @@ fault_in m session e =
     else leb session m.gone gives 23
     else fault_at m (get_or m.sets (session - m.gone - 1) 0) e
 
+-- 20 to 26
 unfoldable pub record_fault_of : Monitor → ℕ → ℕ → ℕ
 record_fault_of m session e = bad m gives 20 else fault_in m session e
 
--- so here
+-- the place is known, for the session is none of those let go
 unfoldable pub record_of : Monitor → ℕ → ℕ → Handed (Unit {0})
 record_of m session e =
     let fault = record_fault_of m session e in

@@ -1,5 +1,5 @@
 // The monitor: a loaded sheet, the counts, what is carried past the sessions let go, and the sets and rows of the kept ones. Each call tests the state
-// first (20), then the paper's order; a refusal hands the monitor back as it was.
+// first (20), then the paper's order; a refusal leaves the monitor as it was.
 #![tactic(auto)]
 
 ghost use Rattle.std.specs.Prelude.{◌≡◌};

@@ -6,7 +6,9 @@ use Rattle.refusals.specs.declared.Refusal.{Refusal}
 use Rattle.refusals.proofs.Alike.{same_answer}
 use Rattle.monitor.specs.declared.Monitor.{Monitor}
 use Rattle.monitor.specs.declared.Outcome.{Outcome}
-use Rattle.monitor.specs.Calls.{Handed, outcome}
+use Rattle.sheet.specs.Sound.{sound}
+use Rattle.monitor.specs.Calls.{Handed, outcome, bad, check_of, counts_of}
+use Rattle.image.specs.Images.{save_of, buffer_after}
 use Rattle.promises.specs.Coincide.{LoadOne, EmptyOne, IsSoundOne, EventOfOne, RootOfOne, RestOfOne, NewOne, IsBadOne, BeginOne, RecordOne, CheckOne, CountsOne, SaveOne, RestoreOne}
 
 -- SHEETS
@@ -21,7 +23,7 @@ empty_one a b p q = p ∙ sym q
 
 pub is_sound_one : IsSoundOne
 unfolding IsSoundOne
-is_sound_one κs s a b p q = p ∙ sym q
+is_sound_one κs λs s t e a b p q = p ∙ ap sound e ∙ sym q
 
 -- PATHS
 
@@ -53,7 +55,7 @@ new_one s a b p q = p ∙ sym q
 
 pub is_bad_one : IsBadOne
 unfolding IsBadOne
-is_bad_one κs m a b p q = p ∙ sym q
+is_bad_one κs λs m n e a b p q = p ∙ ap bad e ∙ sym q
 
 pub begin_one : BeginOne
 unfolding BeginOne
@@ -65,17 +67,20 @@ record_one m s e a b p q = same_outcome a b (p ∙ sym q)
 
 pub check_one : CheckOne
 unfolding CheckOne
-check_one κs m a b p q = same_answer a b (p ∙ sym q)
+check_one κs λs m n e a b p q = same_answer a b (p ∙ ap check_of e ∙ sym q)
 
 pub counts_one : CountsOne
 unfolding CountsOne
-counts_one κs m a b p q = same_answer a b (p ∙ sym q)
+counts_one κs λs m n e a b p q = same_answer a b (p ∙ ap counts_of e ∙ sym q)
 
 -- IMAGES
 
 pub save_one : SaveOne
 unfolding SaveOne
-save_one κs m lent a b left-a left-b p q = (same_answer a b (p.0 ∙ sym q.0), p.1 ∙ sym q.1)
+save_one κs λs m n lent e a b left-a left-b p q = (
+  same_answer a b (p.0 ∙ ap (λ (x : Monitor). save_of x lent.now) e ∙ sym q.0),
+  p.1 ∙ ap (λ (x : Monitor). buffer_after x lent.now) e ∙ sym q.1,
+)
 
 pub restore_one : RestoreOne
 unfolding RestoreOne

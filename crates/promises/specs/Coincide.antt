@@ -30,13 +30,13 @@ use Rattle.image.proofs.restore.Reads as restore_reads
 abbrev pub One : {A : Type 0} → (A → Type 0) → Type 0
 One {A} promise = (a b : A) → promise a → promise b → a ≡ b
 
+-- At most one answer keeps the promises about two loans of one value, wherever they lie and however long they last.
+abbrev pub OneOf : {A V : Type 0} → (Lfts 1 → Bor V → A → Type 0) → Type 0
+OneOf {A} {V} promise = (κs λs : Lfts 1) (m n : Bor V) → m.now ≡ n.now → (a b : A) → promise κs m a → promise λs n b → a ≡ b
+
 -- at most one part of lent bytes does: two have the same bytes, lie in the same block of memory, and begin at the same place of it
 abbrev pub OnePart : (Bor (List ℕ) → Type 0) → Type 0
 OnePart promise = (a b : Bor (List ℕ)) → promise a → promise b → (a.now ≡ b.now) × (a.ref_ptr.0 ≡ b.ref_ptr.0) × (a.ref_ptr.1 ≡ b.ref_ptr.1)
-
--- at most one answer does, with one final content of the buffer
-abbrev pub OneLeft : {A : Type 0} → (A → MutBor (List ℕ) → Type 0) → Type 0
-OneLeft {A} promise = (a b : A) (left-a left-b : MutBor (List ℕ)) → promise a left-a → promise b left-b → (a ≡ b) × (left-a.now ≡ left-b.now)
 
 -- SHEETS
 
@@ -47,7 +47,7 @@ unfoldable pub EmptyOne : Type 0
 EmptyOne = One (λ (a : Sheet). empty_reads.Learnt tt tt a tt)
 
 unfoldable pub IsSoundOne : Type 0
-IsSoundOne = (κs : Lfts 1) (s : Bor Sheet) → One (λ (a : Bool). is_sound_reads.Learnt κs (s, tt) a (s, tt))
+IsSoundOne = OneOf (λ (κs : Lfts 1) (s : Bor Sheet) (a : Bool). is_sound_reads.Learnt κs (s, tt) a (s, tt))
 
 -- PATHS
 
@@ -72,7 +72,7 @@ unfoldable pub NewOne : Type 0
 NewOne = (s : Sheet) → One (λ (a : Monitor). new_reads.Learnt tt (s, tt) a (s, tt))
 
 unfoldable pub IsBadOne : Type 0
-IsBadOne = (κs : Lfts 1) (m : Bor Monitor) → One (λ (a : Bool). is_bad_reads.Learnt κs (m, tt) a (m, tt))
+IsBadOne = OneOf (λ (κs : Lfts 1) (m : Bor Monitor) (a : Bool). is_bad_reads.Learnt κs (m, tt) a (m, tt))
 
 unfoldable pub BeginOne : Type 0
 BeginOne = (m : Monitor) → One (λ (a : Outcome ℕ). begin_reads.Learnt tt (m, tt) a (m, tt))
@@ -82,17 +82,19 @@ RecordOne =
     (m : Monitor) (s e : ℕ) → One (λ (a : Outcome (Unit {0})). record_reads.Learnt tt (m, (s, (e, tt))) a (m, (s, (e, tt))))
 
 unfoldable pub CheckOne : Type 0
-CheckOne = (κs : Lfts 1) (m : Bor Monitor) → One (λ (a : Result Verdict Refusal). check_reads.Learnt κs (m, tt) a (m, tt))
+CheckOne = OneOf (λ (κs : Lfts 1) (m : Bor Monitor) (a : Result Verdict Refusal). check_reads.Learnt κs (m, tt) a (m, tt))
 
 unfoldable pub CountsOne : Type 0
-CountsOne = (κs : Lfts 1) (m : Bor Monitor) → One (λ (a : Result Counts Refusal). counts_reads.Learnt κs (m, tt) a (m, tt))
+CountsOne = OneOf (λ (κs : Lfts 1) (m : Bor Monitor) (a : Result Counts Refusal). counts_reads.Learnt κs (m, tt) a (m, tt))
 
 -- IMAGES
 
 unfoldable pub SaveOne : Type 0
 SaveOne =
-    (κs : Lfts 2) (m : Bor Monitor) (lent : MutBor (List ℕ))
-    → OneLeft (λ (a : Result ℕ Refusal) (left : MutBor (List ℕ)). save_reads.Learnt κs (m, (lent, tt)) a (m, (left, tt)))
+    (κs λs : Lfts 2) (m n : Bor Monitor) (lent : MutBor (List ℕ)) → m.now ≡ n.now
+    → (a b : Result ℕ Refusal) (left-a left-b : MutBor (List ℕ))
+    → save_reads.Learnt κs (m, (lent, tt)) a (m, (left-a, tt)) → save_reads.Learnt λs (n, (lent, tt)) b (n, (left-b, tt))
+    → (a ≡ b) × (left-a.now ≡ left-b.now)
 
 unfoldable pub RestoreOne : Type 0
 RestoreOne =
