@@ -11,7 +11,7 @@ use Rattle.meaning.specs.History.{let_go, kept_of, check, counts}
 use Rattle.laws.proofs.SetLaws.{mem_set_of}
 use Rattle.sheet.specs.declared.Sheet.{Sheet}
 use Rattle.sheet.specs.Sound.{rules_in}
-use Rattle.rows.proofs.Arms.{some_nodes}
+use Rattle.sheet.proofs.SoundSays.{some_nodes}
 use Rattle.window.specs.Kept.{filled, row_before}
 use Rattle.window.proofs.Moves.{later_before}
 use Rattle.monitor.specs.declared.Monitor.{Monitor}

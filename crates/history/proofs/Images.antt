@@ -15,7 +15,7 @@ use Rattle.meaning.specs.History.{saved, refused, let_go, kept_of, carried}
 use Rattle.meaning.specs.Image.{Saving, image_bytes, image_of, save, oldest_closed, unlawful, read_image}
 use Rattle.sheet.specs.declared.Sheet.{Sheet}
 use Rattle.sheet.specs.Sound.{rules_in}
-use Rattle.rows.proofs.Arms.{few_events, few_nodes}
+use Rattle.sheet.proofs.SoundSays.{few_events, few_nodes}
 use Rattle.window.specs.Kept.{filled, refreshed}
 use Rattle.monitor.specs.declared.Monitor.{Monitor}
 use Rattle.image.specs.Images.{image_in, save_fault, save_of, buffer_after, monitor_in, restored_as, restore_of}

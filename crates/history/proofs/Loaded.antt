@@ -21,7 +21,8 @@ use Rattle.sheet.specs.Loads.{table_of, kind_of_node, left_of, right_of, numbers
 use Rattle.sheet.specs.Sound.{sound_event, sound_node, sound, rules_in}
 use Rattle.sheet.proofs.Tables.{table_length, table_at}
 use Rattle.sheet.proofs.Sounds.{node_again}
-use Rattle.rows.proofs.Arms.{some_events, node_fits_lem}
+use Rattle.sheet.proofs.SoundSays.{some_events}
+use Rattle.rows.proofs.Arms.{node_fits_lem}
 use Rattle.history.specs.Made.{Symmetric}
 
 -- a set of which nothing is a member is empty

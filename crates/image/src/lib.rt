@@ -8,6 +8,7 @@ ghost use Rattle.image.specs.Images.{save_of, buffer_after, restore_of};
 
 use monitor::{Monitor, Outcome};
 use refusals::Refusal;
+use sheet::SoundSheet;
 
 mod numbers;
 mod reading;
@@ -53,14 +54,15 @@ pub fn restore(mut m: Monitor, bytes: &[u8]) -> Outcome<()>
     };
     let kept = (bytes.len() - limits::HEADER) / limits::SESSION;
     let sets = reading::sets_in(bytes);
-    if reading::is_unlawful(&m.sheet, header.carried, &sets[..kept]) {
+    let sheet = SoundSheet { sheet: &m.sheet };
+    if reading::is_unlawful(sheet, header.carried, &sets[..kept]) {
         return Outcome {
             monitor: m,
             answer: Err(Refusal::UnlawfulImage),
         };
     }
     let mut rows = [0u64; limits::KEPT];
-    window::rows_from(&m.sheet, header.carried, &sets, &mut rows, 0, kept);
+    window::rows_from(sheet, header.carried, &sets, &mut rows, 0, kept);
     m.total = header.total;
     m.gone = header.gone;
     m.kept = kept;

@@ -1,14 +1,14 @@
 // Reading an image: its header, its kept sessions, and whether the sheet allows them.
-ghost use Rattle.std.specs.Prelude.{◌≡◌, true, ◌≤◌, ◌<◌, ◌^◌, leb, length};
+ghost use Rattle.std.specs.Prelude.{◌≡◌, ◌≤◌, ◌<◌, ◌^◌, leb, length};
 ghost use Rattle.meaning.specs.Limits.{kept_most, header_length, session_kind, word_bits};
 ghost use Rattle.meaning.specs.Image.{headed as headed_by, kept_in, sessions_in, said, oldest_closed};
 ghost use Rattle.meaning.specs.Lists.{all};
-ghost use Rattle.sheet.specs.Sound.{sound, rules_in};
+ghost use Rattle.sheet.specs.Sound.{rules_in};
 ghost use Rattle.image.specs.Parts.{answer, front_of, unlawful_in, fine as fine_by};
 ghost use Rattle.window.specs.Kept.{filled};
 
 use crate::{numbers, writing};
-use sheet::Sheet;
+use sheet::SoundSheet;
 
 // What the front of an image says.
 #[derive(Clone, Copy)]
@@ -90,25 +90,22 @@ fn beyond(n: usize, x: u64) -> bool
 }
 
 // Whether a set holds events of the sheet only, and is allowed.
-fn fine(s: &Sheet, x: u32) -> bool
-    requires { sound s.now ≡ true }
-    ensures { result ≡ fine_by (rules_in s.now) x }
+fn fine(s: SoundSheet, x: u32) -> bool
+    ensures { result ≡ fine_by (rules_in s.entry.sheet.now) x }
 {
-    !beyond(s.events, x as u64) & events::allowed(s, x)
+    !beyond(s.sheet.events, x as u64) & events::allowed(s, x)
 }
 
 // Whether each set is fine.
-fn all_fine(s: &Sheet, sets: &[u32]) -> bool
-    requires { sound s.now ≡ true }
-    ensures { result ≡ all (fine_by (rules_in s.now)) sets.now }
+fn all_fine(s: SoundSheet, sets: &[u32]) -> bool
+    ensures { result ≡ all (fine_by (rules_in s.entry.sheet.now)) sets.now }
 {
     sets.iter().all(|x| fine(s, *x))
 }
 
 // Whether the oldest kept session is closed.
-fn is_oldest_closed(s: &Sheet, sets: &[u32]) -> bool
-    requires { sound s.now ≡ true }
-    ensures { result ≡ oldest_closed (rules_in s.now) sets.now }
+fn is_oldest_closed(s: SoundSheet, sets: &[u32]) -> bool
+    ensures { result ≡ oldest_closed (rules_in s.entry.sheet.now) sets.now }
 {
     match sets {
         [] => false,
@@ -117,12 +114,11 @@ fn is_oldest_closed(s: &Sheet, sets: &[u32]) -> bool
 }
 
 // What 43 names: a set or the row with bits outside the sheet, a set not allowed, or the oldest kept session closed.
-pub fn is_unlawful(s: &Sheet, carried: u64, sets: &[u32]) -> bool
-    requires { sound s.now ≡ true }
-    ensures { result ≡ unlawful_in s.now carried sets.now }
+pub fn is_unlawful(s: SoundSheet, carried: u64, sets: &[u32]) -> bool
+    ensures { result ≡ unlawful_in s.entry.sheet.now carried sets.now }
 {
     let lawful = all_fine(s, sets);
-    let outside = beyond(s.nodes, carried);
+    let outside = beyond(s.sheet.nodes, carried);
     let closed = is_oldest_closed(s, sets);
     !lawful | outside | closed
 }

@@ -4,7 +4,6 @@ use Rattle.std.proofs.Common.{ℕ, ◌+◌, ◌≤◌, ◌<◌, ◌≡◌, refl,
 use borrow.Author.Tests.{not-false}
 use Rattle.laws.proofs.Quantifiers.{or_false}
 use Rattle.laws.proofs.Lawful.{passes}
-use Rattle.rows.proofs.Arms.{few_events, few_nodes}
 use Rattle.meaning.specs.Limits.{nodes_most, kept_most, total_most}
 use Rattle.meaning.specs.Refusals.{refused}
 use Rattle.refusals.specs.declared.Refusal.{Refusal}
@@ -12,6 +11,7 @@ use Rattle.refusals.specs.Numbers.{number}
 use Rattle.refusals.proofs.Alike.{not_zero}
 use Rattle.sheet.specs.declared.Sheet.{Sheet}
 use Rattle.sheet.specs.Sound.{sound}
+use Rattle.sheet.proofs.SoundSays.{few_events, few_nodes}
 use Rattle.monitor.specs.declared.Monitor.{Monitor}
 use Rattle.monitor.specs.Calls.{bad, opened, written, begin_fault_of, begin_of, fault_in, record_fault_of, record_of}
 use Rattle.monitor.specs.Fits.{Fit}

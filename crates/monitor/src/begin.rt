@@ -7,6 +7,7 @@ ghost use Rattle.monitor.specs.Fits.{Fit};
 
 use crate::{Monitor, Outcome};
 use refusals::Refusal;
+use sheet::SoundSheet;
 
 impl Monitor {
     // One session more, empty.
@@ -17,7 +18,7 @@ impl Monitor {
     {
         let before = window::row_before(self.carried, &self.rows, self.kept);
         self.sets[self.kept] = 0;
-        self.rows[self.kept] = rows::next_row(&self.sheet, before, 0);
+        self.rows[self.kept] = rows::next_row(SoundSheet { sheet: &self.sheet }, before, 0);
         self.kept += 1;
         self.total += 1;
         self

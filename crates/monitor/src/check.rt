@@ -6,6 +6,7 @@ ghost use Rattle.monitor.specs.Fits.{Fit};
 
 use crate::{Monitor, Verdict};
 use refusals::Refusal;
+use sheet::SoundSheet;
 
 impl Monitor {
     // The row at the last session.
@@ -18,7 +19,7 @@ impl Monitor {
             return self.rows[self.kept - 1];
         }
         if self.total == 0 {
-            return rows::next_row(&self.sheet, self.carried, 0);
+            return rows::next_row(SoundSheet { sheet: &self.sheet }, self.carried, 0);
         }
         self.carried
     }

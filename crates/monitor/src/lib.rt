@@ -7,7 +7,7 @@ ghost use Rattle.monitor.specs.Calls.{fresh, bad, settled as settled_by};
 ghost use Rattle.monitor.specs.Fits.{Fit};
 
 use refusals::Refusal;
-use sheet::Sheet;
+use sheet::{Sheet, SoundSheet};
 
 mod begin;
 mod check;
@@ -88,7 +88,8 @@ impl Monitor {
         requires { Fit self }
         ensures { result ≡ settled_by self }
     {
-        let k = window::front_closed(&self.sheet, &self.sets, self.kept);
+        let sheet = SoundSheet { sheet: &self.sheet };
+        let k = window::front_closed(sheet, &self.sets, self.kept);
         self.carried = window::row_before(self.carried, &self.rows, k);
         window::moved_up(&mut self.sets, &mut self.rows, k, self.kept);
         self.gone += k as u32;

@@ -7,6 +7,7 @@ ghost use Rattle.monitor.specs.Fits.{Fit};
 
 use crate::{Monitor, Outcome};
 use refusals::Refusal;
+use sheet::SoundSheet;
 
 impl Monitor {
     // The kept place i holds event e too, and the rows from there on are made anew.
@@ -17,20 +18,22 @@ impl Monitor {
     {
         let m = &mut self;
         m.sets[i] = events::added(m.sets[i], e);
-        window::rows_from(&m.sheet, m.carried, &m.sets, &mut m.rows, i, m.kept);
+        let sheet = SoundSheet { sheet: &m.sheet };
+        window::rows_from(sheet, m.carried, &m.sets, &mut m.rows, i, m.kept);
         self
     }
 
     // 23 to 26: what event e meets in the set x of a kept session.
-    #[tactic(auto, using(rows::proofs::Arms::few_events), unfolding(crate::specs::Calls::fault_at))]
+    #[tactic(auto, using(sheet::proofs::SoundSays::few_events), unfolding(crate::specs::Calls::fault_at))]
     fn fault_at(&self, x: u32, e: usize) -> Result<(), Refusal>
         requires { Fit self.now × (e < self.now.sheet.events) }
         ensures { fault result ≡ fault_at self.now x e }
     {
-        let shut = events::closed(&self.sheet, x);
+        let sheet = SoundSheet { sheet: &self.sheet };
+        let shut = events::closed(sheet, x);
         let there = events::has(x, e);
-        let clash = !events::possible(&self.sheet, x, e);
-        let lacks = !events::supported(&self.sheet, x, e);
+        let clash = !events::possible(sheet, x, e);
+        let lacks = !events::supported(sheet, x, e);
         if shut {
             return Err(Refusal::SessionClosed);
         }

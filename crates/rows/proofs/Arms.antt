@@ -1,17 +1,17 @@
 -- The arms of a node: what its kind says of its operands. And a row, as it grows bit by bit.
 -- Assumes nothing.
-use Rattle.std.proofs.Common.{ℕ, zero, suc, ◌+◌, ◌*◌, ◌%◌, ◌^◌, ◌≤◌, ◌<◌, ◌≡◌, ap, ◌∙◌, subst, Bool, true, cond, ◌&&◌, one-mul, mod-eq_of_lt, lt_of_lt_of_le, arith, leb, ltb, get_or, pow_mono, pow_pos, ltb-true, leb-true}
+use Rattle.std.proofs.Common.{ℕ, zero, suc, ◌+◌, ◌*◌, ◌%◌, ◌^◌, ◌<◌, ◌≡◌, ap, ◌∙◌, subst, Bool, true, cond, ◌&&◌, one-mul, mod-eq_of_lt, lt_of_lt_of_le, arith, ltb, get_or, pow_mono, pow_pos, ltb-true}
 use Rattle.std.proofs.Math.Pow.{pow-lt}
-use Rattle.meaning.specs.Limits.{events_most, nodes_most, node_kinds_end, word_bits}
-use Rattle.meaning.specs.Sets.{every}
+use Rattle.meaning.specs.Limits.{events_most, node_kinds_end, word_bits}
 use Rattle.meaning.specs.Rules.{Rules, node_in_range}
 use Rattle.meaning.specs.Sheet.{node_kinds, node_kind, node_of}
 use Rattle.meaning.specs.Steps.{node_bit, row_to}
-use Rattle.laws.proofs.Quantifiers.{and_left, and_right, every_each}
+use Rattle.laws.proofs.Quantifiers.{and_left, and_right}
 use Rattle.laws.proofs.SetLaws.{grown_lt}
 use Rattle.sheet.specs.declared.Sheet.{Sheet}
 use Rattle.sheet.specs.Loads.{no_numbers}
-use Rattle.sheet.specs.Sound.{sound_event, sound_node, sound, rules_in}
+use Rattle.sheet.specs.Sound.{sound_node, sound, rules_in}
+use Rattle.sheet.proofs.SoundSays.{few_events, few_nodes, node_sound}
 use Rattle.rows.specs.Needs.{NodeFits}
 
 module _ (s : Sheet) (n : ℕ) (f : NodeFits s n) where
@@ -67,53 +67,12 @@ module _ (s : Sheet) (n : ℕ) (f : NodeFits s n) where
 -- what the code may ask of its operands, arm by arm
 pub ruleset operands = (event_left, possible_left, not_left, and_operands, or_operands, previous_left, since_operands)
 
--- WHAT SOUND SAYS
-
-module _ (s : Sheet) (ok : sound s ≡ true) where
-  abbrev E : Bool
-  E = every s.events (sound_event s.needs s.conflicts s.events)
-
-  abbrev N : Bool
-  N = every s.nodes (sound_node s.node s.events)
-
-  -- 1 to the most events and nodes, each of them sound
-  parts : (1 ≤ s.events) × (s.events ≤ events_most) × (1 ≤ s.nodes) × (s.nodes ≤ nodes_most) × (E ≡ true) × (N ≡ true)
-  unfolding sound
-  parts =
-      let a = leb 1 s.events in
-      let b = leb s.events events_most in
-      let c = leb 1 s.nodes in
-      let d = leb s.nodes nodes_most in
-      let p = and_left (a && b && c && d && E) N ok in
-      let q = and_left (a && b && c && d) E p in
-      let r = and_left (a && b && c) d q in
-      let t = and_left (a && b) c r in (
-        leb-true 1 s.events (and_left a b t),
-        leb-true s.events events_most (and_right a b t),
-        leb-true 1 s.nodes (and_right (a && b) c r),
-        leb-true s.nodes nodes_most (and_right (a && b && c) d q),
-        and_right (a && b && c && d) E p,
-        and_right (a && b && c && d && E) N ok,
-      )
-
-  pub some_events : 1 ≤ s.events
-  some_events = parts.0
-
-  pub few_events : s.events ≤ events_most
-  few_events = parts.1
-
-  pub some_nodes : 1 ≤ s.nodes
-  some_nodes = parts.2
-
-  pub few_nodes : s.nodes ≤ nodes_most
-  few_nodes = parts.3
-
-  pub node_fits_lem : (n : ℕ) → n < s.nodes → NodeFits s n
-  unfolding sound_node rules_in
-  node_fits_lem n l =
-      let h = few_nodes in
-      let e = every_each (sound_node s.node s.events) s.nodes n l parts.5 in
-      record { below = omega arith; few = few_events; ranged = and_right (ltb (get_or s.node n no_numbers).kind node_kinds_end) _ e }
+-- each node of a sound sheet fits
+pub node_fits_lem : (s : Sheet) → sound s ≡ true → (n : ℕ) → n < s.nodes → NodeFits s n
+unfolding sound_node rules_in
+node_fits_lem s ok n l =
+    let h = few_nodes s ok in
+    record { below = omega arith; few = few_events s ok; ranged = and_right (ltb (get_or s.node n no_numbers).kind node_kinds_end) _ (node_sound s ok n l) }
 
 -- A ROW GROWS
 

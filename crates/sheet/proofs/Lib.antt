@@ -4,3 +4,4 @@ pub mod Loading
 pub mod Putting
 pub mod Stepping
 pub mod Sounds
+pub mod SoundSays

@@ -15,6 +15,8 @@ use refusals::Refusal;
 
 mod soundness;
 
+pub use soundness::SoundSheet;
+
 // A node as numbers: its kind and its operands, 0 where it has none. Numbers, since a stored sheet may hold any kind: one above 7 is turned away as 20.
 #[derive(Clone, Copy)]
 pub struct Node {

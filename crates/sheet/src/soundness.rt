@@ -1,10 +1,17 @@
 // Whether a stored sheet is sound: it holds no number that a sheet's own refusals 11, 13, 15 or 16 would turn away.
-ghost use Rattle.std.specs.Prelude.{◌≡◌, ◌≤◌, ◌<◌};
+ghost use Rattle.std.specs.Prelude.{◌≡◌, true, ◌≤◌, ◌<◌};
 ghost use Rattle.meaning.specs.Limits.{events_most, nodes_most};
 ghost use Rattle.sheet.specs.Sound.{sound_event, sound_node, sound};
 
 use crate::Sheet;
 use faults::ranges;
+
+// A stored sheet that is sound, lent: what rows, windows and sets of events are judged by.
+#[derive(Clone, Copy)]
+pub struct SoundSheet<'a> {
+    pub sheet: &'a Sheet,
+    pub ghost sounds: { sound sheet.now ≡ true },
+}
 
 impl Sheet {
     // Event e needs lower ones only, and conflicts with events of the sheet other than itself.

@@ -1,13 +1,13 @@
 // The kept sessions: their sets and rows in two arrays, oldest first, unused places 0.
 #![tactic(auto)]
 
-ghost use Rattle.std.specs.Prelude.{◌≡◌, true, ◌≤◌, ◌-◌, take};
+ghost use Rattle.std.specs.Prelude.{◌≡◌, ◌≤◌, ◌-◌, take};
 ghost use Rattle.meaning.specs.Limits.{kept_most};
 ghost use Rattle.meaning.specs.History.{let_go};
-ghost use Rattle.sheet.specs.Sound.{sound, rules_in};
+ghost use Rattle.sheet.specs.Sound.{rules_in};
 ghost use Rattle.window.specs.Kept.{row_before, refreshed, moved};
 
-use sheet::Sheet;
+use sheet::SoundSheet;
 
 // The row of the session before place j: what is carried where j is the first.
 pub fn row_before(carried: u64, rows: &[u64; limits::KEPT], j: usize) -> u64
@@ -19,15 +19,15 @@ pub fn row_before(carried: u64, rows: &[u64; limits::KEPT], j: usize) -> u64
 
 // The rows from place `from` on, made anew from the row before it and the sets.
 pub fn rows_from(
-    s: &Sheet,
+    s: SoundSheet,
     carried: u64,
     sets: &[u32; limits::KEPT],
     rows: &mut [u64; limits::KEPT],
     from: usize,
     kept: usize,
 )
-    requires { (sound s.now ≡ true) × (kept ≤ kept_most) }
-    ensures { rows.new ≡ refreshed (rules_in s.now) carried sets.now rows.old from (kept - from) }
+    requires { kept ≤ kept_most }
+    ensures { rows.new ≡ refreshed (rules_in s.entry.sheet.now) carried sets.now rows.old from (kept - from) }
 {
     for j in from..kept {
         let before = row_before(carried, rows, j);
@@ -36,9 +36,9 @@ pub fn rows_from(
 }
 
 // How many of the kept sessions, from the oldest on, are closed.
-pub fn front_closed(s: &Sheet, sets: &[u32; limits::KEPT], kept: usize) -> usize
-    requires { (sound s.now ≡ true) × (kept ≤ kept_most) }
-    ensures { result ≡ let_go (rules_in s.now) (take kept sets.now) }
+pub fn front_closed(s: SoundSheet, sets: &[u32; limits::KEPT], kept: usize) -> usize
+    requires { kept ≤ kept_most }
+    ensures { result ≡ let_go (rules_in s.entry.sheet.now) (take kept sets.now) }
 {
     sets[..kept]
         .iter()

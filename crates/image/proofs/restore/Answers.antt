@@ -42,8 +42,8 @@ slice_bounds-is_unlawful-end c =
     let z : length c.sets_in-sets.result ≡ kept_most = search rules in
     sym (length-take-le ((length c.args.bytes.now - header_length) / session_length) c.sets_in-sets.result (omega arith))
 
-pub is_unlawful-requires : goal.is_unlawful-requires
-is_unlawful-requires c = (fit_of c.args.m (sym c.is_bad.ensures ∙ c.if-is_bad.false)).sounds
+pub invariant_of-sheet : goal.invariant_of-sheet
+invariant_of-sheet c = record { sounds = (fit_of c.args.m (sym c.is_bad.ensures ∙ c.if-is_bad.false)).sounds }
 
 pub returns-then-is_unlawful : goal.returns-then-is_unlawful
 returns-then-is_unlawful c =
@@ -59,9 +59,7 @@ returns-then-is_unlawful c =
     (carried_is s c.read_header.result h _ c.in-Some.is) u
 
 pub rows_from-requires : goal.rows_from-requires
-rows_from-requires c =
-    let k = (shape c.args.bytes.now c.read_header.result c.read_header.ensures _ c.in-Some.is).few in
-    ((fit_of c.args.m (sym c.is_bad.ensures ∙ c.if-is_bad.false)).sounds, k)
+rows_from-requires c = (shape c.args.bytes.now c.read_header.result c.read_header.ensures _ c.in-Some.is).few
 
 pub returns : goal.returns
 returns c =

@@ -6,4 +6,4 @@ use Rattle.sheet.specs.Sound.{rules_in}
 use Rattle.rows.proofs.next_row.Given as goal
 
 abbrev pub invariant-loop-n : goal.invariant-loop-n
-invariant-loop-n l = l.row ≡ row_to (rules_in l.s) l.«before» l.x l.n
+invariant-loop-n l = l.row ≡ row_to (rules_in l.s.sheet.now) l.«before» l.x l.n

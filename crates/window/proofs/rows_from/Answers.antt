@@ -8,9 +8,9 @@ use Rattle.window.proofs.rows_from.Goals as goal
 pub loop-j-preserved : goal.loop-j-preserved
 loop-j-preserved c =
     c.loop-j.invariant ∙ rw (c.next_row.ensures, c.row_before-before.ensures)
-    (refreshed_step (rules_in c.args.s.now) c.args.carried c.args.sets.now c.loop-j.rows c.loop-j.j c.args.kept (omega arith))
+    (refreshed_step (rules_in c.args.s.sheet.now) c.args.carried c.args.sets.now c.loop-j.rows c.loop-j.j c.args.kept (omega arith))
 
 pub returns : goal.returns
 returns c =
     sym
-    (c.loop-j.invariant ∙ refreshed_end (rules_in c.args.s.now) c.args.carried c.args.sets.now c.loop-j.rows c.loop-j.j c.args.kept c.loop-j-test.false)
+    (c.loop-j.invariant ∙ refreshed_end (rules_in c.args.s.sheet.now) c.args.carried c.args.sets.now c.loop-j.rows c.loop-j.j c.args.kept c.loop-j-test.false)

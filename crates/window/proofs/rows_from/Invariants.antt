@@ -6,4 +6,4 @@ use Rattle.window.specs.Kept.{refreshed}
 use Rattle.window.proofs.rows_from.Given as goal
 
 abbrev pub invariant-loop-j : goal.invariant-loop-j
-invariant-loop-j l = refreshed (rules_in l.s) l.carried l.sets l.initial.rows l.from (l.kept - l.from) ≡ refreshed (rules_in l.s) l.carried l.sets l.rows l.j (l.kept - l.j)
+invariant-loop-j l = refreshed (rules_in l.s.sheet.now) l.carried l.sets l.initial.rows l.from (l.kept - l.from) ≡ refreshed (rules_in l.s.sheet.now) l.carried l.sets l.rows l.j (l.kept - l.j)

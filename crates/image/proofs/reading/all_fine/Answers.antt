@@ -10,6 +10,6 @@ use Rattle.image.proofs.reading.all_fine.Goals as goal
 
 pub returns : goal.returns
 returns c =
-    let test = fine (rules_in c.args.s.now) in
+    let test = fine (rules_in c.args.s.sheet.now) in
     let l = c.args.sets.now in
     all_from_yields_List test _ _ _ c.all.ensures.ran (YieldsList-from_slice l c.iter.ensures.rest) (λ x b q k. search (rules, tests)) ∙ all_is test l

@@ -2,7 +2,7 @@
 -- Assumes nothing.
 use Rattle.std.proofs.Common.{sym, ◌∙◌, arith}
 use Rattle.monitor.proofs.States.{fit_of}
-use Rattle.rows.proofs.Arms.{some_nodes, few_nodes}
+use Rattle.sheet.proofs.SoundSays.{some_nodes, few_nodes}
 use Rattle.monitor.proofs.Monitor.check.Goals as goal
 
 pub row_now-row-requires : goal.row_now-row-requires
