@@ -7,5 +7,5 @@ use Rattle.image.proofs.numbers.u32_of.Goals as goal
 
 pub returns : goal.returns
 returns c =
-    number_of_4 c.copy_from_slice.new.self c.from_le_bytes.result (search rules) (search rules) c.from_le_bytes.type_inv c.from_le_bytes.ensures
-    ∙ ap number_of c.copy_from_slice.ensures.after
+    number_of_4 c.array.result c.from_le_bytes.result (search rules) (search rules) c.from_le_bytes.type_inv c.from_le_bytes.ensures
+    ∙ ap number_of c.array.ensures
