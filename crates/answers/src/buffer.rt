@@ -14,7 +14,7 @@ pub const ROOM: usize = 65536;
 
 const DIGITS: [u8; 16] = *b"0123456789abcdef";
 
-// A writer, and what is still to be written to it.
+// A writer, and what is still to be written to it. That an error needs a full buffer is said of the answer of each function, which no invariant can say.
 // Lines are put together by these methods, not by `write!`: that says nothing of what a failed write leaves.
 #[derive(Drop)]
 pub struct Gathering<'a, W: Write> {

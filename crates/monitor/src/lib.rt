@@ -14,6 +14,7 @@ mod check;
 mod count;
 mod record;
 
+// What calls keep true of a state (`Fit` in specs/) is no invariant of the type: a stored state may be any, and 20 turns away what does not fit.
 #[derive(Clone, Copy)]
 pub struct Monitor {
     pub sheet: Sheet,
@@ -28,7 +29,7 @@ pub struct Monitor {
     pub rows: [u64; Monitor::KEPT],
 }
 
-// What a call answers that may change the monitor: it hands the monitor back.
+// What a call answers that may change the monitor: it hands the monitor back, inside the answer struct that document 01 names.
 #[derive(Clone, Copy)]
 pub struct Outcome<T> {
     pub monitor: Monitor,

@@ -46,7 +46,8 @@ fn edge_at(path: &[u8], n: usize) -> bool
     }
 }
 
-// The longest root of the access that covers the path, in a sheet that was accepted. The first differing byte sends the search on to the next root.
+// The longest root of the access that covers the path, in a sheet that was accepted. The first differing byte sends the search on to the next root:
+// a labelled walk with the bytes compared one by one, as document 01 names this form.
 fn find(sheet: &[u8], access: u32, path: &[u8]) -> Option<Span>
     requires { Accepted sheet.now }
     ensures { Best sheet.now access path.now result }

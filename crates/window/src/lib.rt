@@ -17,7 +17,7 @@ pub fn row_before(carried: u64, rows: &[u64; limits::KEPT], j: usize) -> u64
     if j == 0 { carried } else { rows[j - 1] }
 }
 
-// The rows from place `from` on, made anew from the row before it and the sets.
+// The rows from place `from` on, made anew from the row before it and the sets. Places are lent one by one, since an image's have no monitor yet.
 pub fn rows_from(
     s: SoundSheet,
     carried: u64,
@@ -46,7 +46,7 @@ pub fn front_closed(s: SoundSheet, sets: &[u32; limits::KEPT], kept: usize) -> u
         .count()
 }
 
-// Lets go of the first k of the kept: the others move up, and freed places hold 0.
+// Lets go of the first k of the kept: the others move up, and freed places hold 0. Once for each array, since `fill` of any type asks that a clone cannot fail.
 pub fn moved_up(
     sets: &mut [u32; limits::KEPT],
     rows: &mut [u64; limits::KEPT],
