@@ -39,6 +39,6 @@ fn follows(kind: Kind, last: &[u8], p: &[u8]) -> bool
 pub fn disordered(before: Kind, last: &[u8], kind: Kind, p: &[u8]) -> bool
     ensures { result ≡ disordered_item (code before) (key_of (item_of (code before) last.now)) (item_of (code kind) p.now) }
 {
-    let earlier = kind.place() < before.place();
+    let earlier = kind < before;
     kind == Kind::Count || earlier || (kind == before && !follows(kind, last, p))
 }

@@ -7,7 +7,7 @@ ghost use Rattle.records.specs.Codes.{code, named};
 
 use refusals::Refusal;
 
-#[derive(Clone, Copy, Debug, PartialEq, Eq)]
+#[derive(Clone, Copy, Debug, PartialEq, Eq, PartialOrd, Ord)]
 pub enum Kind {
     Count = 1,
     Cause = 2,
