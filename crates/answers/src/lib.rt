@@ -24,7 +24,7 @@ fn refused<W: Write>(out: &mut Gathering<W>, refusal: Refusal) -> io::Result<()>
     ensures err { OnErr result (Full out.new) }
 {
     out.byte(b'r')?;
-    out.decimal(refusal.number())
+    out.decimal(u32::from(refusal))
 }
 
 // A refusal and nothing else.

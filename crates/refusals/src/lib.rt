@@ -35,11 +35,11 @@ pub enum Refusal {
     UnlawfulImage = 43,
 }
 
-impl Refusal {
-    // The number that a host is told.
-    pub fn number(self) -> u32
-        ensures { result ≡ number self }
-    {
-        self as u32
+// The number that a host is told.
+impl From<Refusal> for u32 {
+    ghost from_gives = { λ r n. n ≡ number r };
+
+    fn from(refusal: Refusal) -> u32 {
+        refusal as u32
     }
 }
