@@ -7,10 +7,10 @@ ghost use Rattle.refusals.specs.Numbers.{fault};
 ghost use Rattle.records.specs.Codes.{code};
 ghost use Rattle.faults.specs.Tallies.{Inside, LastInside, last_kind, last_key, payload_in, item_in, tallied};
 
-use records::{Frame, KINDS, Kind};
+use records::{Frame, Item, KINDS, Kind};
 use refusals::Refusal;
 
-pub mod keys;
+mod keys;
 pub mod ranges;
 
 // What of the records before a record decides on it: the last of them, the number of events, and how many of each kind there were, kind 1 first.
@@ -21,32 +21,35 @@ pub struct Tally {
     pub seen: [usize; KINDS],
 }
 
-// A record's payload.
-pub fn payload(s: &[u8], f: Frame) -> &[u8]
+// What a record says: its payload is the part of the sheet that its frame names.
+pub fn item_at(s: &[u8], f: Frame) -> Item
     requires { Inside s.now f }
-    ensures { result.now ≡ payload_in s.now f }
+    ensures { (result.kind ≡ f.kind) × (result.payload.now ≡ payload_in s.now f) }
 {
-    &s[f.start..f.start + f.len]
-}
-
-// Whether a record of the kind with the payload p is out of order behind the last, or as the first.
-#[tactic(auto, using(crate::proofs::Framed::kind_of_code), unfolding(crate::specs::Tallies::item_in, meaning::specs::Sheet::disordered))]
-fn out_of_order(s: &[u8], last: Option<Frame>, kind: Kind, p: &[u8]) -> bool
-    requires { LastInside s.now last }
-    ensures { result ≡ disordered (last_kind last) (last_key s.now last) (item_of (code kind) p.now) }
-{
-    match last {
-        Some(f) => keys::disordered(f.kind, payload(s, f), kind, p),
-        None => kind != Kind::Count,
+    Item {
+        kind: f.kind,
+        payload: &s[f.start..f.start + f.len],
     }
 }
 
-// Whether the payload is of a root whose path is malformed.
-#[tactic(auto, unfolding(meaning::specs::Sheet::root_formed, meaning::specs::Sheet::item_of, meaning::specs::Sheet::root_in))]
-fn malformed(kind: Kind, p: &[u8]) -> bool
-    ensures { result ≡ not (root_formed (item_of (code kind) p.now)) }
+// Whether a record is out of order behind the last, or as the first.
+#[tactic(auto, using(crate::proofs::Framed::kind_of_code), unfolding(crate::specs::Tallies::item_in, meaning::specs::Sheet::disordered))]
+fn out_of_order(s: &[u8], last: Option<Frame>, item: Item) -> bool
+    requires { LastInside s.now last }
+    ensures { result ≡ disordered (last_kind last) (last_key s.now last) (item_of (code item.entry.kind) item.entry.payload.now) }
 {
-    kind == Kind::Root && !form::well_formed(keys::tail(p))
+    match last {
+        Some(f) => keys::disordered(item_at(s, f), item),
+        None => item.kind != Kind::Count,
+    }
+}
+
+// Whether the record is a root whose path is malformed.
+#[tactic(auto, unfolding(meaning::specs::Sheet::root_formed, meaning::specs::Sheet::item_of, meaning::specs::Sheet::root_in))]
+fn malformed(item: Item) -> bool
+    ensures { result ≡ not (root_formed (item_of (code item.entry.kind) item.entry.payload.now)) }
+{
+    item.kind == Kind::Root && !form::well_formed(item.tail())
 }
 
 // The record's fault, where it has one.
@@ -55,12 +58,11 @@ pub fn fault(s: &[u8], t: &Tally, f: Frame) -> Result<(), Refusal>
     requires { LastInside s.now t.now.last × Inside s.now f }
     ensures { fault result ≡ item_fault (tallied s.now t.now) (item_in s.now f) }
 {
-    let kind = f.kind;
-    let p = payload(s, f);
-    let out = out_of_order(s, t.last, kind, p);
-    let full = kind.most() <= t.seen[kind.place()];
-    let wrong = !ranges::in_range(kind, p, t.events, t.seen[Kind::Node.place()]);
-    let odd = malformed(kind, p);
+    let item = item_at(s, f);
+    let out = out_of_order(s, t.last, item);
+    let full = f.kind.most() <= t.seen[f.kind.place()];
+    let wrong = !ranges::in_range(item, t.events, t.seen[Kind::Node.place()]);
+    let odd = malformed(item);
     if out {
         return Err(Refusal::OutOfOrder);
     }

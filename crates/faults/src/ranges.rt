@@ -4,8 +4,7 @@ ghost use Rattle.meaning.specs.Rules.{node_in_range};
 ghost use Rattle.meaning.specs.Sheet.{item_of, node_of, pair_in_range, in_range};
 ghost use Rattle.records.specs.Codes.{code};
 
-use crate::keys;
-use records::Kind;
+use records::{Item, Kind};
 
 // Whether (a, b) may be a pair: a below b, both events of the sheet.
 #[tactic(auto, unfolding(meaning::specs::Sheet::pair_in_range))]
@@ -32,15 +31,15 @@ pub fn node_ok(kind: u8, a: u8, b: u8, events: usize, earlier: usize) -> bool
 
 // Whether a payload's numbers are in range.
 #[tactic(auto, unfolding(meaning::specs::Sheet::in_range, meaning::specs::Sheet::item_of, meaning::specs::Sheet::root_in, meaning::specs::Sheet::node_in, meaning::specs::Sheet::known_access))]
-pub fn in_range(kind: Kind, p: &[u8], events: usize, earlier: usize) -> bool
-    ensures { result ≡ in_range events earlier (item_of (code kind) p.now) }
+pub fn in_range(item: Item, events: usize, earlier: usize) -> bool
+    ensures { result ≡ in_range events earlier (item_of (code item.entry.kind) item.entry.payload.now) }
 {
-    let a = keys::byte(p, 0);
-    let b = keys::byte(p, 1);
-    match kind {
+    let a = item.byte(0);
+    let b = item.byte(1);
+    match item.kind {
         Kind::Count => (1..=limits::EVENTS).contains(&usize::from(a)),
         Kind::Root => a <= 1 && usize::from(b) < events,
-        Kind::Node => node_ok(a, b, keys::byte(p, 2), events, earlier),
+        Kind::Node => node_ok(a, b, item.byte(2), events, earlier),
         Kind::Cause | Kind::Conflict => pair_ok(a, b, events),
     }
 }

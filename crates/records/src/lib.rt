@@ -8,9 +8,11 @@ ghost use Rattle.records.specs.Frames.{framed_at};
 
 use refusals::Refusal;
 
+mod item;
 mod kinds;
 mod reader;
 
+pub use item::Item;
 pub use kinds::{KINDS, Kind, OPERANDS};
 pub use reader::{Reader, read_at};
 

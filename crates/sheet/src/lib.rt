@@ -9,8 +9,8 @@ ghost use Rattle.records.specs.Codes.{code};
 ghost use Rattle.sheet.specs.Loads.{nothing, answered};
 ghost use Rattle.sheet.specs.ByRecord.{with_cause, with_conflict, Fitting, put_record, Countable, counted};
 
-use faults::{Tally, keys};
-use records::{Frame, KINDS, Kind};
+use faults::Tally;
+use records::{Frame, Item, KINDS, Kind};
 use refusals::Refusal;
 
 mod soundness;
@@ -79,15 +79,15 @@ impl Sheet {
         }
     }
 
-    // What a record of the kind with this payload adds. Roots are read from the bytes, and not kept.
+    // What a record adds. Roots are read from the bytes, and not kept.
     #[tactic(auto, unfolding(crate::specs::ByRecord::put_record))]
-    fn add(&mut self, kind: Kind, p: &[u8])
-        requires { Fitting self.old.nodes (code kind) p.now }
-        ensures { self.new ≡ put_record self.old (code kind) p.now }
+    fn add(&mut self, item: Item)
+        requires { Fitting self.old.nodes (code item.kind) item.payload.now }
+        ensures { self.new ≡ put_record self.old (code item.entry.kind) item.entry.payload.now }
     {
-        let a = keys::byte(p, 0);
-        let b = keys::byte(p, 1);
-        match kind {
+        let a = item.byte(0);
+        let b = item.byte(1);
+        match item.kind {
             Kind::Count => self.events = usize::from(a),
             Kind::Cause => add_cause(&mut self.needs, a, b),
             Kind::Conflict => add_conflict(&mut self.conflicts, a, b),
@@ -97,7 +97,7 @@ impl Sheet {
                 self.node[n] = Node {
                     kind: a,
                     left: b,
-                    right: keys::byte(p, 2),
+                    right: item.byte(2),
                 };
                 self.nodes = n + 1;
             }
@@ -133,7 +133,7 @@ pub fn load(s: &[u8]) -> Result<Sheet, Refusal>
     while at < s.len() {
         let f = records::read_at(s, at)?;
         faults::fault(s, &t, f)?;
-        sheet.add(f.kind, faults::payload(s, f));
+        sheet.add(faults::item_at(s, f));
         count(&mut t, f, sheet.events);
         at = f.next;
     }

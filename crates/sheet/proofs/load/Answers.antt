@@ -42,15 +42,16 @@ returns-in_err-fault c =
     (answers_refused c.args.s.now c.if-s-gt-SHEET.false (number r)
     (f_fails c.args.s.now loop.sheet loop.t loop.at loop.invariant.1 c.in_ok-f.f c.in_ok-f.ensures (number r) c.in_err-fault.ensures (not_zero r)))
 
-pub payload-requires : goal.payload-requires
-payload-requires c =
+pub item_at-requires : goal.item_at-requires
+item_at-requires c =
     let loop = c.loop-at in
     f_inside c.args.s.now loop.sheet loop.t loop.at loop.invariant.1 c.in_ok-f.f c.in_ok-f.ensures
 
 pub add-requires : goal.add-requires
 add-requires c =
     let loop = c.loop-at in
-    f_fits c.args.s.now loop.sheet loop.t loop.at loop.invariant.1 c.in_ok-f.f c.in_ok-f.ensures c.in_ok-fault.ensures c.payload.result.now c.payload.ensures
+    let item = c.item_at.ensures in
+    rw item.0 (f_fits c.args.s.now loop.sheet loop.t loop.at loop.invariant.1 c.in_ok-f.f c.in_ok-f.ensures c.in_ok-fault.ensures c.item_at.result.payload.now item.1)
 
 pub count-requires : goal.count-requires
 count-requires c =
@@ -68,7 +69,7 @@ loop-at-preserved c =
     let loop = c.loop-at in (
       (f_next c.args.s.now loop.sheet loop.t loop.at loop.invariant.1 c.in_ok-f.f c.in_ok-f.ensures).1,
       f_goes_on c.args.s.now loop.sheet loop.t loop.at loop.invariant.1 c.in_ok-f.f c.in_ok-f.ensures c.in_ok-fault.ensures
-          c.payload.result.now c.payload.ensures c.add.new.self c.add.ensures c.count.new.t c.count.ensures,
+          c.item_at.result.payload.now c.item_at.ensures.1 c.add.new.self (rw c.item_at.ensures.0 at c.add.ensures) c.count.new.t c.count.ensures,
     )
 
 pub returns-then-sheet-eq0 : goal.returns-then-sheet-eq0
