@@ -81,7 +81,7 @@ fn find(sheet: &[u8], access: u32, path: &[u8]) -> Option<Span>
     best
 }
 
-// The root that the path lies under. The sheet is judged first.
+// The root that the path lies under. The sheet is judged first. An access is a number, for any may be asked: what is not 0 or 1 is 34.
 fn judge(sheet: &[u8], access: u32, path: &[u8]) -> Result<Span, Refusal>
     ensures { Answers sheet.now access path.now result }
 {

@@ -116,7 +116,7 @@ fn count(t: &mut Tally, f: Frame, events: usize)
     t.events = events;
 }
 
-// The sheet that the bytes say, loaded, or the refusal.
+// The sheet that the bytes say, loaded, or the refusal. The walk goes from record to record, each of a length of its own.
 pub fn load(s: &[u8]) -> Result<Sheet, Refusal>
     ensures { answer result ≡ answered (sheet_of s.now) }
 {
