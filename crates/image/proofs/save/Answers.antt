@@ -4,7 +4,7 @@ use Rattle.std.proofs.Common.{rules, ◌≡◌, sym, ◌∙◌, false, arith, le
 use Rattle.monitor.specs.Calls.{bad}
 use Rattle.monitor.proofs.States.{fit_of}
 use Rattle.meaning.specs.Limits.{kept_most}
-use Rattle.image.proofs.Saves.{saved_bad, places, too_short, saved_is}
+use Rattle.image.proofs.Saves.{saved_bad, too_short, saved_is}
 use Rattle.image.proofs.save.Goals as goal
 
 pub returns-then-is_bad : goal.returns-then-is_bad
@@ -29,20 +29,6 @@ shared_ref_as_front-put c =
     let f = (fit_of c.args.monitor.now q).few in
     let z : length c.args.monitor.now.sets ≡ kept_most = search rules in
     omega arith
-
-pub slice_bounds-put-end : goal.slice_bounds-put-end
-slice_bounds-put-end c =
-    let q : bad c.args.monitor.now ≡ false = sym c.is_bad.ensures ∙ c.if-is_bad.false in
-    let f = (fit_of c.args.monitor.now q).few in
-    let z : length c.args.monitor.now.sets ≡ kept_most = search rules in
-    sym (places c.args.monitor.now (omega arith))
-
-pub put-requires : goal.put-requires
-put-requires c =
-    let q : bad c.args.monitor.now ≡ false = sym c.is_bad.ensures ∙ c.if-is_bad.false in
-    let f = (fit_of c.args.monitor.now q).few in
-    let z : length c.args.monitor.now.sets ≡ kept_most = search rules in
-    rw (places c.args.monitor.now (omega arith)) c.if-out-length.false
 
 pub returns : goal.returns
 returns c =
