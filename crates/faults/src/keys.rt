@@ -20,11 +20,20 @@ fn follows(last: Item, item: Item) -> bool
     }
 }
 
-// Whether a record is out of order behind the last one.
+// Whether a record is out of order behind the last one, of kind `before`, or as the first, where that is 0. It is a number, since the rule speaks of
+// any: behind a kind above 5 each record is of a lower one.
 #[tactic(auto, using(crate::proofs::Framed::kind_of_code), unfolding(meaning::specs::Sheet::disordered))]
-pub fn disordered(last: Item, item: Item) -> bool
-    ensures { result ≡ disordered_item (code last.entry.kind) (key_of (item_of (code last.entry.kind) last.entry.payload.now)) (item_of (code item.entry.kind) item.entry.payload.now) }
+pub fn disordered(before: u8, last: &[u8], item: Item) -> bool
+    ensures { result ≡ disordered_item before (key_of (item_of before last.now)) (item_of (code item.entry.kind) item.entry.payload.now) }
 {
-    let earlier = item.kind < last.kind;
-    item.kind == Kind::Count || earlier || (item.kind == last.kind && !follows(last, item))
+    if before == 0 {
+        return item.kind != Kind::Count;
+    }
+    let kind = item.kind as u8;
+    // Read as of the record's own kind, since `follows` is asked only where it is.
+    let last = Item {
+        kind: item.kind,
+        payload: last,
+    };
+    item.kind == Kind::Count || kind < before || (kind == before && !follows(last, item))
 }

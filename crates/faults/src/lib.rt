@@ -10,13 +10,21 @@ ghost use Rattle.faults.specs.Tallies.{Inside, LastInside, last_kind, last_key, 
 use records::{Frame, Item, KINDS, Kind};
 use refusals::Refusal;
 
-mod keys;
+pub mod keys;
 pub mod ranges;
+
+// The record before a record: its kind, a number as `keys::disordered` takes it, and where its payload starts and how long it is.
+#[derive(Clone, Copy)]
+pub struct Last {
+    pub kind: u8,
+    pub start: usize,
+    pub len: usize,
+}
 
 // What of the records before a record decides on it: the last of them, the number of events, and how many of each kind there were, kind 1 first.
 #[derive(Clone, Copy)]
 pub struct Tally {
-    pub last: Option<Frame>,
+    pub last: Option<Last>,
     pub events: usize,
     pub seen: [usize; KINDS],
 }
@@ -33,14 +41,14 @@ pub fn item_at(s: &[u8], f: Frame) -> Item
 }
 
 // Whether a record is out of order behind the last, or as the first.
-#[tactic(auto, using(crate::proofs::Framed::kind_of_code), unfolding(crate::specs::Tallies::item_in, meaning::specs::Sheet::disordered))]
-fn out_of_order(s: &[u8], last: Option<Frame>, item: Item) -> bool
+#[tactic(auto, unfolding(meaning::specs::Sheet::item_of, meaning::specs::Sheet::key_of))]
+fn out_of_order(s: &[u8], last: Option<Last>, item: Item) -> bool
     requires { LastInside s.now last }
     ensures { result ≡ disordered (last_kind last) (last_key s.now last) (item_of (code item.entry.kind) item.entry.payload.now) }
 {
     match last {
-        Some(f) => keys::disordered(item_at(s, f), item),
-        None => item.kind != Kind::Count,
+        Some(l) => keys::disordered(l.kind, &s[l.start..l.start + l.len], item),
+        None => keys::disordered(0, &[], item),
     }
 }
 

@@ -129,7 +129,7 @@ module _ (s : List ℕ) (x : Sheet) (t : Tally) (at : ℕ) (w : Walking s x t at
           ∙ sym (seen_after g k known p (passed (tally g) (item_of k p) passes_by).ordered)
 
       tally_is : tallied s (counted t fr y.events) ≡ tally (after_record g k p)
-      unfolding tallied counted tally after_record stored item_at
+      unfolding tallied counted tally after_record stored item_in payload_in item_at
       tally_is = λ j.
           record {
             kind = frame_kind s at e j;

@@ -41,7 +41,7 @@ pub record Fitting (nodes k : ℕ) (p : List ℕ) : Type 0 where
 unfoldable pub counted : Tally → Frame → ℕ → Tally
 counted t f events =
     let i = code f.kind - 1 in
-    record { last = Some f; events = events; seen = set t.seen i (get_or t.seen i 0 + 1) }
+    record { last = Some (record { kind = code f.kind; start = f.start; len = f.len }); events = events; seen = set t.seen i (get_or t.seen i 0 + 1) }
 
 -- a record can be counted: of its kind there are not too many
 abbrev pub Countable : Tally → Frame → Type 0

@@ -9,7 +9,7 @@ ghost use Rattle.records.specs.Codes.{code};
 ghost use Rattle.sheet.specs.Loads.{nothing, answered};
 ghost use Rattle.sheet.specs.ByRecord.{with_cause, with_conflict, Fitting, put_record, Countable, counted};
 
-use faults::Tally;
+use faults::{Last, Tally};
 use records::{Frame, Item, KINDS, Kind};
 use refusals::Refusal;
 
@@ -112,7 +112,11 @@ fn count(t: &mut Tally, f: Frame, events: usize)
     ensures { t.new ≡ counted t.old f events }
 {
     t.seen[f.kind.place()] += 1;
-    t.last = Some(f);
+    t.last = Some(Last {
+        kind: f.kind as u8,
+        start: f.start,
+        len: f.len,
+    });
     t.events = events;
 }
 
