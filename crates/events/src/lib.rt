@@ -1,4 +1,5 @@
-// Sets of events as whole numbers, and what a session may still take. Each test looks at each event, then at each cause or conflict.
+// Sets of events as whole numbers, and what a session may still take. Each test looks at each event, then at each cause or conflict. A sheet need not
+// be sound for that: it is enough that a set has room for its events.
 #![tactic(auto)]
 
 ghost use Rattle.std.specs.Prelude.{◌≡◌, ◌&&◌, ◌≤◌, ◌<◌};
@@ -7,7 +8,7 @@ ghost use Rattle.meaning.specs.Sets.{mem, added as added_to, apart as apart_in, 
 ghost use Rattle.meaning.specs.Events.{possible as possible_in, supported as supported_in, closed as closed_by, allowed as allowed_by};
 ghost use Rattle.sheet.specs.Sound.{rules_in};
 
-use sheet::SoundSheet;
+use sheet::Sheet;
 
 // Whether event e is in x.
 pub fn has(x: u32, e: usize) -> bool
@@ -42,41 +43,41 @@ pub fn within(n: usize, x: u32, y: u32) -> bool
 }
 
 // Whether event e conflicts with no member of x.
-#[tactic(auto, using(sheet::proofs::SoundSays::few_events))]
-pub fn possible(s: SoundSheet, x: u32, e: usize) -> bool
-    requires { e < events_most }
-    ensures { result ≡ possible_in (rules_in s.entry.sheet.now) e x }
+pub fn possible(s: &Sheet, x: u32, e: usize) -> bool
+    requires { (s.now.events ≤ events_most) × (e < events_most) }
+    ensures { result ≡ possible_in (rules_in s.now) e x }
 {
-    apart(s.sheet.events, s.sheet.conflicts[e], x)
+    apart(s.events, s.conflicts[e], x)
 }
 
 // Whether x holds every cause of event e.
-#[tactic(auto, using(sheet::proofs::SoundSays::few_events))]
-pub fn supported(s: SoundSheet, x: u32, e: usize) -> bool
-    requires { e < events_most }
-    ensures { result ≡ supported_in (rules_in s.entry.sheet.now) e x }
+pub fn supported(s: &Sheet, x: u32, e: usize) -> bool
+    requires { (s.now.events ≤ events_most) × (e < events_most) }
+    ensures { result ≡ supported_in (rules_in s.now) e x }
 {
-    within(s.sheet.events, s.sheet.needs[e], x)
+    within(s.events, s.needs[e], x)
 }
 
 // Whether event e conflicts with no member of x, and x holds every cause of it.
-fn fits(s: SoundSheet, x: u32, e: usize) -> bool
-    requires { e < events_most }
-    ensures { result ≡ (possible_in (rules_in s.entry.sheet.now) e x && supported_in (rules_in s.entry.sheet.now) e x) }
+fn fits(s: &Sheet, x: u32, e: usize) -> bool
+    requires { (s.now.events ≤ events_most) × (e < events_most) }
+    ensures { result ≡ (possible_in (rules_in s.now) e x && supported_in (rules_in s.now) e x) }
 {
     possible(s, x, e) && supported(s, x, e)
 }
 
 // Whether no further event can be added to x.
-pub fn closed(s: SoundSheet, x: u32) -> bool
-    ensures { result ≡ closed_by (rules_in s.entry.sheet.now) x }
+pub fn closed(s: &Sheet, x: u32) -> bool
+    requires { s.now.events ≤ events_most }
+    ensures { result ≡ closed_by (rules_in s.now) x }
 {
-    (0..s.sheet.events).all(|e| has(x, e) || !fits(s, x, e))
+    (0..s.events).all(|e| has(x, e) || !fits(s, x, e))
 }
 
 // Whether x is conflict-free and holds every cause of each member.
-pub fn allowed(s: SoundSheet, x: u32) -> bool
-    ensures { result ≡ allowed_by (rules_in s.entry.sheet.now) x }
+pub fn allowed(s: &Sheet, x: u32) -> bool
+    requires { s.now.events ≤ events_most }
+    ensures { result ≡ allowed_by (rules_in s.now) x }
 {
-    (0..s.sheet.events).all(|e| !has(x, e) || fits(s, x, e))
+    (0..s.events).all(|e| !has(x, e) || fits(s, x, e))
 }
