@@ -20,7 +20,7 @@ fn node_bit(s: SoundSheet, before: u64, x: u32, now: u64, n: usize) -> bool
     // A kind is a number, since a stored sheet may hold any: what is above 7 is turned away as 20, before any row is made.
     match v.kind {
         1 => events::has(x, a),
-        2 => events::possible(s, x, a),
+        2 => events::possible(s.sheet, x, a),
         3 => !bits::bit(now, a),
         4 => bits::bit(now, a) && bits::bit(now, b),
         5 => bits::bit(now, a) || bits::bit(now, b),
