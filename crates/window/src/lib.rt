@@ -42,7 +42,7 @@ pub fn front_closed(s: SoundSheet, sets: &[u32; limits::KEPT], kept: usize) -> u
 {
     sets[..kept]
         .iter()
-        .take_while(|&&x| events::closed(s, x))
+        .take_while(|&&x| events::closed(s.sheet, x))
         .count()
 }
 
