@@ -29,7 +29,7 @@ impl Monitor {
         requires { Fit self.now × (e < self.now.sheet.events) }
         ensures { fault result ≡ fault_at self.now x e }
     {
-        let sheet = SoundSheet { sheet: &self.sheet };
+        let sheet = &self.sheet;
         let shut = events::closed(sheet, x);
         let there = events::has(x, e);
         let clash = !events::possible(sheet, x, e);
