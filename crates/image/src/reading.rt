@@ -90,10 +90,11 @@ fn beyond(n: usize, x: u64) -> bool
 }
 
 // Whether a set holds events of the sheet only, and is allowed.
+#[tactic(auto, using(sheet::proofs::SoundSays::few_events))]
 fn fine(s: SoundSheet, x: u32) -> bool
     ensures { result ≡ fine_by (rules_in s.entry.sheet.now) x }
 {
-    !beyond(s.sheet.events, x as u64) & events::allowed(s, x)
+    !beyond(s.sheet.events, x as u64) & events::allowed(s.sheet, x)
 }
 
 // Whether each set is fine.
@@ -104,12 +105,13 @@ fn all_fine(s: SoundSheet, sets: &[u32]) -> bool
 }
 
 // Whether the oldest kept session is closed.
+#[tactic(auto, using(sheet::proofs::SoundSays::few_events))]
 fn is_oldest_closed(s: SoundSheet, sets: &[u32]) -> bool
     ensures { result ≡ oldest_closed (rules_in s.entry.sheet.now) sets.now }
 {
     match sets {
         [] => false,
-        [oldest, ..] => events::closed(s, *oldest),
+        [oldest, ..] => events::closed(s.sheet, *oldest),
     }
 }
 
