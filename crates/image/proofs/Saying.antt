@@ -2,6 +2,7 @@
 -- Assumes nothing.
 use Rattle.std.proofs.Common.{ℕ, zero, suc, ◌+◌, ◌-◌, ◌*◌, ◌/◌, ◌%◌, ◌^◌, ◌≤◌, ◌<◌, ◌≡◌, refl, sym, ap, ◌∙◌, Bool, true, false, not, ◌&&◌, ◌||◌, List, [], ◌∷◌, ◌++◌, not-suc-le-zero, le_of_suc-le-suc, arith, eqb, leb, ltb, length, get_or, take, drop, length-append, length-drop, take_at, take_all, drop_at, drop-drop, leb-true, leb-false, lt-ltb, le-ltb}
 use Rattle.std.proofs.Math.ListN.{length-map, get_or-map}
+use Rattle.std.proofs.lemmas.Bool.{false≢true}
 use Rattle.meaning.specs.Limits.{kept_most, header_kind, session_kind, head_length, count_length, row_length, set_length, total_at, gone_at, carried_at, header_length, session_length}
 use Rattle.meaning.specs.Lists.{all}
 use Rattle.meaning.specs.Rules.{Rules}
@@ -77,21 +78,70 @@ module _ (s : List ℕ) where
   unfolding misshapen
   too_short l = rw (lt-ltb (length s) header_length l)
 
+  -- a broken length, or too many sessions
+  abbrev pub miscounted : Bool
+  miscounted = not (eqb ((length s - header_length) % session_length) 0) || ltb kept_most ((length s - header_length) / session_length)
+
+  abbrev pub misread : Bool
+  misread =
+      not (headed header_kind s) || not (all (headed session_kind) (sessions_in s)) || not (eqb (said s).total ((said s).gone + kept_in s))
+      || (eqb (said s).gone 0 && not (eqb (said s).carried_row 0))
+
+  seven_tests : (b c d e f g : Bool) → (b || e) ≡ true → (false || b || c || d || e || f || g) ≡ true
+  seven_tests true c d e f g q = refl
+  seven_tests false true d e f g q = refl
+  seven_tests false false true e f g q = refl
+  seven_tests false false false true f g q = refl
+  seven_tests false false false false f g q = absurd (false≢true q)
+
+  rest_tests : (b c d e f g : Bool) → (b || e) ≡ false → (false || b || c || d || e || f || g) ≡ (c || d || f || g)
+  rest_tests false true d false f g q = refl
+  rest_tests false false true false f g q = refl
+  rest_tests false false false false f g q = refl
+  rest_tests true c d e f g q = absurd (false≢true (sym q))
+  rest_tests false true d true f g q = absurd (false≢true (sym q))
+  rest_tests false false true true f g q = absurd (false≢true (sym q))
+  rest_tests false false false true f g q = absurd (false≢true (sym q))
+
+  pub counts_wrong : header_length ≤ length s → miscounted ≡ true → misshapen kept_most s ≡ true
+  unfolding misshapen kept_in
+  counts_wrong l e =
+      rw (le-ltb (length s) header_length l)
+      (seven_tests
+      (not (eqb ((length s - header_length) % session_length) 0))
+      (not (headed header_kind s))
+      (not (all (headed session_kind) (sessions_in s)))
+      (ltb kept_most ((length s - header_length) / session_length))
+      (not (eqb (said s).total ((said s).gone + kept_in s)))
+      (eqb (said s).gone 0 && not (eqb (said s).carried_row 0))
+      e)
+
+  pub else_read : header_length ≤ length s → miscounted ≡ false → misshapen kept_most s ≡ misread
+  unfolding misshapen kept_in
+  else_read l e =
+      rw (le-ltb (length s) header_length l)
+      (rest_tests
+      (not (eqb ((length s - header_length) % session_length) 0))
+      (not (headed header_kind s))
+      (not (all (headed session_kind) (sessions_in s)))
+      (ltb kept_most ((length s - header_length) / session_length))
+      (not (eqb (said s).total ((said s).gone + kept_in s)))
+      (eqb (said s).gone 0 && not (eqb (said s).carried_row 0))
+      e)
+
   -- in the terms in which code finds it
   module _
       (m w : Bool) (total gone carried : ℕ)
       (m-is : m ≡ headed header_kind s) (w-is : w ≡ all (headed session_kind) (sessions_in s))
       (total_is : total ≡ number_of (take count_length (drop total_at s))) (gone_is : gone ≡ number_of (take count_length (drop gone_at s))) (carried_is : carried ≡ number_of (take row_length (drop carried_at s)))
-      (long : header_length ≤ length s)
+      (long : header_length ≤ length s) (counted : miscounted ≡ false)
     where
       abbrev pub unread : Bool
-      unread =
-          let behind = length s - header_length in
-          not (eqb (behind % session_length) 0) || not m || not w || ltb kept_most (behind / session_length) || not (eqb total (gone + behind / session_length)) || (eqb gone 0 && not (eqb carried 0))
+      unread = not m || not w || not (eqb total (gone + (length s - header_length) / session_length)) || (eqb gone 0 && not (eqb carried 0))
 
       read_as : misshapen kept_most s ≡ unread
-      unfolding misshapen said kept_in
-      read_as = rw (le-ltb (length s) header_length long, m-is, w-is, total_is, gone_is, carried_is)
+      unfolding said kept_in
+      read_as = else_read long counted ∙ rw (m-is, w-is, total_is, gone_is, carried_is)
 
       pub unread_wrong : unread ≡ true → refused 42 ≡ front_of s
       unread_wrong e = wrong_if (read_as ∙ e)

@@ -36,7 +36,8 @@ fn sessions_headed(s: &[u8]) -> bool
         .all(|session| headed(session, limits::SESSION_KIND))
 }
 
-// The header of an image that is of the form, and nothing of any other: everything that 42 names is tested here.
+// The header of an image that is of the form, and nothing of any other: everything that 42 names is tested here. The length comes first, so that however
+// long the bytes are no more sessions are looked at than may be kept.
 pub fn read_header(s: &[u8]) -> Option<Header>
     ensures { answer result ≡ front_of s.now }
 {
@@ -46,15 +47,18 @@ pub fn read_header(s: &[u8]) -> Option<Header>
     let behind = s.len() - limits::HEADER;
     let kept = behind / limits::SESSION;
     let broken = behind % limits::SESSION != 0;
+    let crowded = limits::KEPT < kept;
+    if broken | crowded {
+        return None;
+    }
     let marked = headed(s, limits::HEADER_KIND);
     let whole = sessions_headed(s);
-    let crowded = limits::KEPT < kept;
-    let total = numbers::u32_of(&s[limits::TOTAL_AT..limits::GONE_AT]);
-    let gone = numbers::u32_of(&s[limits::GONE_AT..limits::CARRIED_AT]);
-    let carried = numbers::u64_of(&s[limits::CARRIED_AT..limits::HEADER]);
+    let total = numbers::u32_of(&s[limits::TOTAL_AT..limits::TOTAL_AT + limits::COUNT_BYTES]);
+    let gone = numbers::u32_of(&s[limits::GONE_AT..limits::GONE_AT + limits::COUNT_BYTES]);
+    let carried = numbers::u64_of(&s[limits::CARRIED_AT..limits::CARRIED_AT + limits::ROW_BYTES]);
     let counted = total as u64 == gone as u64 + kept as u64;
     let stray = (gone == 0) & (carried != 0);
-    if broken | !marked | !whole | crowded | !counted | stray {
+    if !marked | !whole | !counted | stray {
         return None;
     }
     Some(Header {
@@ -76,7 +80,7 @@ pub fn sets_in(s: &[u8]) -> [u32; limits::KEPT]
         .chunks_exact(limits::SESSION)
         .enumerate()
     {
-        out[j] = numbers::u32_of(&session[limits::SET_AT..limits::SESSION]);
+        out[j] = numbers::u32_of(&session[limits::SET_AT..limits::SET_AT + limits::SET_BYTES]);
     }
     out
 }

@@ -52,10 +52,12 @@ pub const SESSION: usize = 7;
 
 pub const SET_AT: usize = 3;
 
-// The bytes of a count and of a row in it.
+// The bytes of a count, of a row and of a set in it.
 pub const COUNT_BYTES: usize = 4;
 
 pub const ROW_BYTES: usize = 8;
+
+pub const SET_BYTES: usize = 4;
 
 // The bits of the word that a row is kept in.
 pub const WORD_BITS: usize = 64;
