@@ -1,17 +1,19 @@
 -- States that pass 20, and what a session more does to them.
 -- Assumes nothing.
-use Rattle.std.proofs.Common.{ℕ, ◌+◌, ◌≤◌, ◌<◌, ◌≡◌, refl, Bool, true, false, not, ◌||◌, arith, eqb, leb, ltb, ltb-false, leb-false, eqb-true, ne_eqb}
+use Rattle.std.proofs.Common.{ℕ, ◌+◌, ◌≤◌, ◌<◌, ◌≡◌, refl, Bool, true, false, not, ◌||◌, arith, eqb, leb, ltb, ltb-false, leb-false, eqb-true, ne_eqb, take}
 use borrow.Author.Tests.{not-false}
 use Rattle.laws.proofs.Quantifiers.{or_false}
 use Rattle.laws.proofs.Lawful.{passes}
 use Rattle.meaning.specs.Limits.{nodes_most, kept_most, total_most}
 use Rattle.meaning.specs.Refusals.{refused}
+use Rattle.meaning.specs.History.{let_go}
 use Rattle.refusals.specs.declared.Refusal.{Refusal}
 use Rattle.refusals.specs.Numbers.{number}
 use Rattle.refusals.proofs.Alike.{not_zero}
 use Rattle.sheet.specs.declared.Sheet.{Sheet}
-use Rattle.sheet.specs.Sound.{sound}
+use Rattle.sheet.specs.Sound.{sound, rules_in}
 use Rattle.sheet.proofs.SoundSays.{few_events, few_nodes}
+use Rattle.window.proofs.Moves.{run_le}
 use Rattle.monitor.specs.declared.Monitor.{Monitor}
 use Rattle.monitor.specs.Calls.{bad, opened, written, begin_fault_of, begin_of, fault_in, record_fault_of, record_of}
 use Rattle.monitor.specs.Fits.{Fit}
@@ -66,25 +68,30 @@ roomy m q =
 
 -- what no fault says of a session and an event
 pub record Places (m : Monitor) (session e : ℕ) : Type 0 where
-  pub fit : Fit m
   pub above : m.gone < session
   pub begun : session ≤ m.total
   pub known : e < m.sheet.events
 
-pub places : (m : Monitor) (session e : ℕ) → record_fault_of m session e ≡ 0 → Places m session e
-unfolding record_fault_of fault_in
+pub places : (m : Monitor) (session e : ℕ) → fault_in m session e ≡ 0 → Places m session e
+unfolding fault_in
 places m session e q =
-    let s = passes (bad m) 20 _ (λ z. omega arith) q in
-    let a = passes (eqb session 0 || ltb m.total session) 21 _ (λ z. omega arith) s.1 in
+    let a = passes (eqb session 0 || ltb m.total session) 21 _ (λ z. omega arith) q in
     let b = passes (leb m.sheet.events e) 22 _ (λ z. omega arith) a.1 in
     let c = passes (leb session m.gone) 23 _ (λ z. omega arith) b.1 in
     let t = or_false (eqb session 0) (ltb m.total session) a.0 in
     record {
-      fit = fit_of m s.0;
       above = leb-false session m.gone c.0;
       begun = ltb-false m.total session t.1;
       known = leb-false m.sheet.events e b.0;
     }
 
+pub fit_places : (m : Monitor) (session e : ℕ) → record_fault_of m session e ≡ 0 → Fit m × Places m session e
+unfolding record_fault_of
+fit_places m session e q = let s = passes (bad m) 20 _ (λ z. omega arith) q in (fit_of m s.0, places m session e s.1)
+
+-- no more sessions are let go than are kept
+pub gone_few : (m : Monitor) (k : ℕ) → k ≡ let_go (rules_in m.sheet) (take m.kept m.sets) → k ≤ m.kept
+gone_few m k e = rw e (run_le (rules_in m.sheet) m.sets m.kept)
+
 -- what the goals of `record` share
-pub ruleset recording = (few_events, record_refused, places)
+pub ruleset recording = (few_events, record_refused, fit_places)

@@ -84,7 +84,7 @@ impl Monitor {
     }
 
     // The oldest kept session is let go while it is closed.
-    #[tactic(auto, using(window::proofs::Moves::run_le), unfolding(crate::specs::Calls::settled))]
+    #[tactic(auto, using(crate::proofs::States::gone_few), unfolding(crate::specs::Calls::settled))]
     fn settled(mut self) -> Self
         requires { Fit self }
         ensures { result ≡ settled_by self }
