@@ -26,14 +26,10 @@ struct Run<'a, W: Write> {
     out: Gathering<'a, W>,
 }
 
-// Adds the bytes to the line, up to the room.
+// Adds the bytes to the line, up to the room: all at once, for a comment may be long.
 fn gather(line: &mut Line, bytes: &[u8]) {
-    for b in bytes {
-        if line.is_full() {
-            return;
-        }
-        line.push(*b);
-    }
+    let fits = text::front(bytes, line.remaining_capacity());
+    line.try_extend_from_slice(fits).unwrap();
 }
 
 impl<'a, W: Write> Run<'a, W> {
