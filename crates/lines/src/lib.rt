@@ -11,19 +11,22 @@ use monitor::Monitor;
 use sheet::Sheet;
 use std::io;
 use std::io::Write;
-use text::Bytes;
+use text::{Bytes, ROOM};
 
-// The bytes of the last sheet, accepted or not; and the monitor at hand, all zeros until a sheet was accepted.
-#[derive(Drop)]
+// The bytes of the last sheet and how many there are, accepted or not; and the monitor at hand, all zeros until a sheet was accepted. The bytes stand in an
+// array with their number beside it, so that a state is plain data, which may be copied.
+#[derive(Clone, Copy)]
 pub struct State {
-    pub sheet: Bytes,
+    pub sheet: [u8; ROOM],
+    pub len: usize,
     pub monitor: Monitor,
 }
 
 impl State {
     pub fn new() -> Self {
         Self {
-            sheet: Bytes::new(),
+            sheet: [0; ROOM],
+            len: 0,
             monitor: Monitor::new(Sheet::empty()),
         }
     }
@@ -51,7 +54,8 @@ fn take_sheet<W: Write>(state: &mut State, rest: &[u8], out: &mut Gathering<W>) 
         return answers::unknown(out);
     };
     let loaded = sheet::load(bytes.as_slice());
-    state.sheet = bytes;
+    state.len = bytes.len();
+    state.sheet[..bytes.len()].copy_from_slice(bytes.as_slice());
     if let Ok(sheet) = loaded {
         state.monitor = Monitor::new(sheet);
     }
@@ -78,7 +82,7 @@ fn ask_path<W: Write>(state: &State, rest: &[u8], out: &mut Gathering<W>) -> io:
 fn ask<W: Write>(state: &State, access: u32, path: &[u8], out: &mut Gathering<W>) -> io::Result<()>
     ensures err { OnErr result (Full out.new) }
 {
-    let sheet = state.sheet.as_slice();
+    let sheet = text::front(&state.sheet, state.len);
     let event = path::event_of(sheet, access, path);
     let root = path::root_of(sheet, access, path);
     let rest = path::rest_of(sheet, access, path);
