@@ -2,7 +2,7 @@
 // and then. Only a write can fail, and that needs a full buffer or `flush`: what was to be written is then still there.
 ghost use Rattle.std.specs.Prelude.{◌≡◌, [], ◌∷◌, OnOk, OnErr};
 ghost use Rattle.std.specs.Io.KnownBytes.{Keeps, Appends};
-ghost use Rattle.answers.specs.Gathered.{gathered, Full};
+ghost use Rattle.answers.specs.Gathered.{gathered, Full, SameWriter};
 
 use arrayvec::ArrayVec;
 use itoa::Integer;
@@ -15,6 +15,7 @@ pub const ROOM: usize = 65536;
 const DIGITS: [u8; 16] = *b"0123456789abcdef";
 
 // A writer, and what is still to be written to it. That an error needs a full buffer is said of the answer of each function, which no invariant can say.
+// Each also says that the writer is still the one that was lent: without that a caller knows nothing of what its own holds.
 // Lines are put together by these methods, not by `write!`: that says nothing of what a failed write leaves.
 #[derive(Drop)]
 pub struct Gathering<'a, W: Write> {
@@ -27,6 +28,7 @@ impl<'a, W: Write> Gathering<'a, W> {
     pub fn new(to: &'a mut W) -> Self
         ensures empty { result.waiting.items ≡ [] }
         ensures same { result.to.now ≡ to.entry.now }
+        ensures same_reference { result.to.ghost_name ≡ to.entry.ghost_name }
     {
         Gathering {
             to,
@@ -40,6 +42,7 @@ impl<'a, W: Write> Gathering<'a, W> {
             (Appends (gathered W.contents self.old) (gathered W.contents self.new) (b ∷ [])) }
         ensures err { OnErr result (Full self.old) }
         ensures kept { OnErr result (self.new.waiting.items ≡ self.old.waiting.items) }
+        ensures same_reference { SameWriter self.old self.new }
     {
         if self.waiting.is_full() {
             self.flush()?;
@@ -52,6 +55,7 @@ impl<'a, W: Write> Gathering<'a, W> {
         ensures ok { OnOk result
             (Appends (gathered W.contents self.old) (gathered W.contents self.new) s.now) }
         ensures err { OnErr result (Full self.new) }
+        ensures same_reference { SameWriter self.old self.new }
     {
         for b in s {
             self.byte(*b)?;
@@ -65,6 +69,7 @@ impl<'a, W: Write> Gathering<'a, W> {
             (Keeps (gathered W.contents self.old) (gathered W.contents self.new)) }
         ensures empty { OnOk result (self.new.waiting.items ≡ []) }
         ensures err { OnErr result (self.new.waiting.items ≡ self.old.waiting.items) }
+        ensures same_reference { SameWriter self.old self.new }
     {
         self.to.write_all(self.waiting.as_slice())?;
         self.waiting.clear();
@@ -75,6 +80,7 @@ impl<'a, W: Write> Gathering<'a, W> {
         ensures ok { OnOk result
             (Appends (gathered W.contents self.old) (gathered W.contents self.new) (N.text n)) }
         ensures err { OnErr result (Full self.new) }
+        ensures same_reference { SameWriter self.old self.new }
     {
         let mut digits = itoa::Buffer::new();
         self.bytes(digits.format(n).as_bytes())
@@ -83,6 +89,7 @@ impl<'a, W: Write> Gathering<'a, W> {
     // Two digits a byte, and "-" for no bytes.
     pub fn hex(&mut self, s: &[u8]) -> io::Result<()>
         ensures err { OnErr result (Full self.new) }
+        ensures same_reference { SameWriter self.old self.new }
     {
         if s.is_empty() {
             self.byte(b'-')?;
@@ -93,4 +100,14 @@ impl<'a, W: Write> Gathering<'a, W> {
         }
         Ok(())
     }
+}
+
+// Hands s over at once: the writer then holds what it held, and s behind it. This says of the writer that was lent what the methods say of a gathering, and
+// holds only while each of them keeps that very reference.
+pub fn handed_over<W: Write>(to: &mut W, s: &[u8]) -> io::Result<()>
+    ensures { OnOk result (Appends (W.contents to.old) (W.contents to.new) s.now) }
+{
+    let mut out = Gathering::new(to);
+    out.bytes(s)?;
+    out.flush()
 }

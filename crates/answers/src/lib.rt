@@ -2,7 +2,7 @@
 #![tactic(auto)]
 
 ghost use Rattle.std.specs.Prelude.{OnErr};
-ghost use Rattle.answers.specs.Gathered.{Full};
+ghost use Rattle.answers.specs.Gathered.{Full, SameWriter};
 
 use buffer::Gathering;
 use itoa::Integer;
@@ -16,12 +16,14 @@ pub mod buffer;
 // A command that could not be read.
 pub fn unknown<W: Write>(out: &mut Gathering<W>) -> io::Result<()>
     ensures err { OnErr result (Full out.new) }
+    ensures same_reference { SameWriter out.old out.new }
 {
     out.bytes(b"?\n")
 }
 
 fn refused<W: Write>(out: &mut Gathering<W>, refusal: Refusal) -> io::Result<()>
     ensures err { OnErr result (Full out.new) }
+    ensures same_reference { SameWriter out.old out.new }
 {
     out.byte(b'r')?;
     out.decimal(u32::from(refusal))
@@ -30,6 +32,7 @@ fn refused<W: Write>(out: &mut Gathering<W>, refusal: Refusal) -> io::Result<()>
 // A refusal and nothing else.
 fn refusal<W: Write>(out: &mut Gathering<W>, refusal: Refusal) -> io::Result<()>
     ensures err { OnErr result (Full out.new) }
+    ensures same_reference { SameWriter out.old out.new }
 {
     refused(out, refusal)?;
     out.byte(b'\n')
@@ -38,6 +41,7 @@ fn refusal<W: Write>(out: &mut Gathering<W>, refusal: Refusal) -> io::Result<()>
 // A call that has nothing to say but that it was accepted.
 pub fn accepted<W: Write>(out: &mut Gathering<W>, answer: Result<(), Refusal>) -> io::Result<()>
     ensures err { OnErr result (Full out.new) }
+    ensures same_reference { SameWriter out.old out.new }
 {
     match answer {
         Ok(()) => out.bytes(b"ok\n"),
@@ -52,6 +56,7 @@ fn told<W: Write, N: Integer>(
     answer: Result<N, Refusal>,
 ) -> io::Result<()>
     ensures err { OnErr result (Full out.new) }
+    ensures same_reference { SameWriter out.old out.new }
 {
     match answer {
         Ok(n) => {
@@ -65,6 +70,7 @@ fn told<W: Write, N: Integer>(
 // The session begun.
 pub fn session<W: Write>(out: &mut Gathering<W>, answer: Result<u32, Refusal>) -> io::Result<()>
     ensures err { OnErr result (Full out.new) }
+    ensures same_reference { SameWriter out.old out.new }
 {
     told(out, b's', answer)?;
     out.byte(b'\n')
@@ -77,6 +83,7 @@ pub fn image<W: Write>(
     lent: &[u8],
 ) -> io::Result<()>
     ensures err { OnErr result (Full out.new) }
+    ensures same_reference { SameWriter out.old out.new }
 {
     told(out, b'i', answer)?;
     out.byte(b' ')?;
@@ -87,6 +94,7 @@ pub fn image<W: Write>(
 // The verdict, and the row of truths in 16 hex digits, its highest byte first.
 pub fn verdict<W: Write>(out: &mut Gathering<W>, answer: Result<Verdict, Refusal>) -> io::Result<()>
     ensures err { OnErr result (Full out.new) }
+    ensures same_reference { SameWriter out.old out.new }
 {
     match answer {
         Ok(Verdict { allow, row }) => {
@@ -101,6 +109,7 @@ pub fn verdict<W: Write>(out: &mut Gathering<W>, answer: Result<Verdict, Refusal
 // Total, let go and kept.
 pub fn counts<W: Write>(out: &mut Gathering<W>, answer: Result<Counts, Refusal>) -> io::Result<()>
     ensures err { OnErr result (Full out.new) }
+    ensures same_reference { SameWriter out.old out.new }
 {
     match answer {
         Ok(Counts { total, gone, kept }) => {
@@ -123,6 +132,7 @@ pub fn event<W: Write>(
     rest: &[u8],
 ) -> io::Result<()>
     ensures err { OnErr result (Full out.new) }
+    ensures same_reference { SameWriter out.old out.new }
 {
     match answer {
         Ok(event) => {
