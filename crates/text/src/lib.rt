@@ -2,7 +2,7 @@
 // that a caller has nothing to show first.
 #![tactic(auto)]
 
-ghost use Rattle.std.specs.Prelude.{◌≡◌, ◌≢◌, ◌<◌, ◌++◌, ◌∷◌, take, slice_index, EachIndex, MatchOption, IfSome, Ok};
+ghost use Rattle.std.specs.Prelude.{◌≡◌, ◌≢◌, ◌<◌, ◌++◌, ◌∷◌, take, drop, slice_index, EachIndex, MatchOption, IfSome, Ok};
 
 use arrayvec::ArrayVec;
 use std::str;
@@ -13,6 +13,13 @@ pub fn front(s: &[u8], n: usize) -> &[u8]
     ensures { result.now ≡ take n s.now }
 {
     s.get(..n).unwrap_or(s)
+}
+
+// What follows the first n bytes of s: nothing where it has fewer.
+pub fn behind(s: &[u8], n: usize) -> &[u8]
+    ensures { result.now ≡ drop n s.now }
+{
+    s.get(n..).unwrap_or(&[])
 }
 
 // The first word of s, and what follows the space behind it: nothing where s has no space.
