@@ -4,7 +4,7 @@
 #![tactic(auto)]
 
 ghost use Rattle.std.specs.Prelude.{OnErr};
-ghost use Rattle.answers.specs.Gathered.{Full};
+ghost use Rattle.answers.specs.Gathered.{Full, SameWriter};
 
 use answers::buffer::Gathering;
 use monitor::Monitor;
@@ -19,6 +19,7 @@ pub fn run<W: Write>(
     out: &mut Gathering<W>,
 ) -> io::Result<()>
     ensures err { OnErr result (Full out.new) }
+    ensures same_reference { SameWriter out.old out.new }
 {
     match (word, rest) {
         (b"begin", None) => begin(m, out),
@@ -35,6 +36,7 @@ pub fn run<W: Write>(
 // begin: the session's number.
 fn begin<W: Write>(m: &mut Monitor, out: &mut Gathering<W>) -> io::Result<()>
     ensures err { OnErr result (Full out.new) }
+    ensures same_reference { SameWriter out.old out.new }
 {
     let begun = m.begin();
     *m = begun.monitor;
@@ -50,6 +52,7 @@ fn session_and_event(rest: &[u8]) -> Option<(u32, u32)> {
 // record S E.
 fn record<W: Write>(m: &mut Monitor, rest: &[u8], out: &mut Gathering<W>) -> io::Result<()>
     ensures err { OnErr result (Full out.new) }
+    ensures same_reference { SameWriter out.old out.new }
 {
     let Some((session, event)) = session_and_event(rest) else {
         return answers::unknown(out);
@@ -62,6 +65,7 @@ fn record<W: Write>(m: &mut Monitor, rest: &[u8], out: &mut Gathering<W>) -> io:
 // check: the verdict, and the row of truths in 16 hex digits.
 fn check<W: Write>(m: &Monitor, out: &mut Gathering<W>) -> io::Result<()>
     ensures err { OnErr result (Full out.new) }
+    ensures same_reference { SameWriter out.old out.new }
 {
     answers::verdict(out, m.check())
 }
@@ -69,6 +73,7 @@ fn check<W: Write>(m: &Monitor, out: &mut Gathering<W>) -> io::Result<()>
 // counts: total, let go, kept.
 fn counts<W: Write>(m: &Monitor, out: &mut Gathering<W>) -> io::Result<()>
     ensures err { OnErr result (Full out.new) }
+    ensures same_reference { SameWriter out.old out.new }
 {
     answers::counts(out, m.counts())
 }
@@ -79,6 +84,7 @@ const LENT: usize = 4096;
 // save N: the image's length, and the buffer of N bytes, each EE before the call.
 fn save<W: Write>(m: &Monitor, rest: &[u8], out: &mut Gathering<W>) -> io::Result<()>
     ensures err { OnErr result (Full out.new) }
+    ensures same_reference { SameWriter out.old out.new }
 {
     let Some(n) = text::decimal(rest).filter(|n| *n <= LENT) else {
         return answers::unknown(out);
@@ -92,6 +98,7 @@ fn save<W: Write>(m: &Monitor, rest: &[u8], out: &mut Gathering<W>) -> io::Resul
 // restore HEX.
 fn restore<W: Write>(m: &mut Monitor, rest: &[u8], out: &mut Gathering<W>) -> io::Result<()>
     ensures err { OnErr result (Full out.new) }
+    ensures same_reference { SameWriter out.old out.new }
 {
     let Some(bytes) = text::from_hex(rest) else {
         return answers::unknown(out);
@@ -104,6 +111,7 @@ fn restore<W: Write>(m: &mut Monitor, rest: &[u8], out: &mut Gathering<W>) -> io
 // poke FIELD I V.
 fn poke<W: Write>(m: &mut Monitor, rest: &[u8], out: &mut Gathering<W>) -> io::Result<()>
     ensures err { OnErr result (Full out.new) }
+    ensures same_reference { SameWriter out.old out.new }
 {
     match poke::poke(m, rest) {
         Some(()) => answers::accepted(out, Ok(())),
