@@ -4,7 +4,7 @@
 #![tactic(auto)]
 
 ghost use Rattle.std.specs.Prelude.{OnErr};
-ghost use Rattle.answers.specs.Gathered.{Full};
+ghost use Rattle.answers.specs.Gathered.{Full, SameWriter};
 
 use answers::buffer::Gathering;
 use monitor::Monitor;
@@ -35,6 +35,7 @@ impl State {
 // Runs the command that the line's first word names.
 pub fn run<W: Write>(state: &mut State, line: &[u8], out: &mut Gathering<W>) -> io::Result<()>
     ensures err { OnErr result (Full out.new) }
+    ensures same_reference { SameWriter out.old out.new }
 {
     let (word, rest) = text::first_word(line);
     match (word, rest) {
@@ -49,6 +50,7 @@ pub fn run<W: Write>(state: &mut State, line: &[u8], out: &mut Gathering<W>) -> 
 // sheet HEX: whether the bytes load. They are kept either way, for the path questions; an accepted sheet makes a fresh monitor.
 fn take_sheet<W: Write>(state: &mut State, rest: &[u8], out: &mut Gathering<W>) -> io::Result<()>
     ensures err { OnErr result (Full out.new) }
+    ensures same_reference { SameWriter out.old out.new }
 {
     let Some(bytes) = text::from_hex(rest) else {
         return answers::unknown(out);
@@ -71,6 +73,7 @@ fn access_and_path(rest: &[u8]) -> Option<(u32, Bytes)> {
 // path A HEX: the question for access A and these bytes.
 fn ask_path<W: Write>(state: &State, rest: &[u8], out: &mut Gathering<W>) -> io::Result<()>
     ensures err { OnErr result (Full out.new) }
+    ensures same_reference { SameWriter out.old out.new }
 {
     let Some((access, path)) = access_and_path(rest) else {
         return answers::unknown(out);
@@ -81,6 +84,7 @@ fn ask_path<W: Write>(state: &State, rest: &[u8], out: &mut Gathering<W>) -> io:
 // read PATH, write PATH: the question for the path as it stands. The event, the root and the rest of the path, or the number of the refusal.
 fn ask<W: Write>(state: &State, access: u32, path: &[u8], out: &mut Gathering<W>) -> io::Result<()>
     ensures err { OnErr result (Full out.new) }
+    ensures same_reference { SameWriter out.old out.new }
 {
     let sheet = text::front(&state.sheet, state.len);
     let event = path::event_of(sheet, access, path);
