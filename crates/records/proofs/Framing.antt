@@ -47,6 +47,13 @@ module _ (s : List ℕ) (at : ℕ) where
 
 -- WHAT STANDS AT A PLACE
 
+-- byte by byte, whole or not
+pub frame_bytes :
+    (s : List ℕ) (at : ℕ)
+    → frame_at s at ≡ record { kind = named (get_or s (at + 2) 0); start = at + 4; len = get_or s (at + 3) 0; next = at + 4 + get_or s (at + 3) 0 }
+unfolding frame_at kind_of
+frame_bytes s at = rw (get_or-drop at s 2 0, get_or-drop at s 3 0)
+
 pub breaks : (s : List ℕ) (at : ℕ) → framed (drop at s) ≡ false → refused 11 ≡ framed_at s at
 unfolding framed_at
 breaks s at e = rw e
