@@ -33,10 +33,10 @@ pub fn first_word(s: &[u8]) -> (&[u8], Option<&[u8]>)
     }
 }
 
-// The zeros in front aside, no number has more digits: those of the greatest of 128 bits.
+// The sign and the zeros in front aside, no whole number has more digits: those of the greatest of 128 bits.
 const DIGITS: usize = 39;
 
-// The number that s says in decimal, if that is all it says and the number fits.
+// The whole number that s says in decimal, if that is all it says and the number fits.
 pub fn decimal<N: FromStr>(s: &[u8]) -> Option<N>
 where
     N::Err: Drop,
@@ -47,23 +47,22 @@ where
         return None;
     }
     // A word too long for a number may be long indeed, and is not read through.
-    let zeros = s.iter().position(|c| *c != b'0').unwrap_or(s.len());
-    if DIGITS < s.len() - zeros {
+    let digits = s.strip_prefix(b"-").unwrap_or(s);
+    let zeros = digits.iter().position(|c| *c != b'0');
+    if zeros.is_some_and(|n| DIGITS < digits.len() - n) {
         return None;
     }
     str::from_utf8(s).ok()?.parse().ok()
 }
 
-// What a hexadecimal digit says.
-fn digit(c: u8) -> Option<u8>
-    ensures { IfSome result (λ d. d < 16) }
-{
-    match c {
-        b'0'..=b'9' => Some(c - b'0'),
-        b'a'..=b'f' => Some(c - b'a' + 10),
-        b'A'..=b'F' => Some(c - b'A' + 10),
-        _ => None,
-    }
+// What two hexadecimal digits say.
+fn pair(s: &[u8]) -> Option<u8> {
+    let [high, low] = s else {
+        return None;
+    };
+    let high = char::from(*high).to_digit(16)?;
+    let low = char::from(*low).to_digit(16)?;
+    Some((high * 16 + low) as u8)
 }
 
 // Whether s is one "-", with nothing but spaces around it: how no bytes are written, so that they are not mistaken for a text that was forgotten.
@@ -85,13 +84,11 @@ pub fn from_hex(s: &[u8]) -> Option<Bytes> {
     }
     let mut rest = s;
     while let Some(n) = rest.iter().position(|c| *c != b' ' && *c != b'|') {
-        let [high, low, behind @ ..] = &rest[n..] else {
-            return None;
-        };
+        let (digits, behind) = rest[n..].split_at_checked(2)?;
         if said.is_full() {
             return None;
         }
-        said.push(digit(*high)? * 16 + digit(*low)?);
+        said.push(pair(digits)?);
         rest = behind;
     }
     if said.is_empty() {
