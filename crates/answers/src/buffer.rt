@@ -103,7 +103,7 @@ impl<'a, W: Write> Gathering<'a, W> {
 }
 
 // Hands s over at once: the writer then holds what it held, and s behind it. This says of the writer that was lent what the methods say of a gathering, and
-// holds only while each of them keeps that very reference.
+// holds only because `new`, `bytes` and `flush` keep that very reference.
 pub fn handed_over<W: Write>(to: &mut W, s: &[u8]) -> io::Result<()>
     ensures { OnOk result (Appends (W.contents to.old) (W.contents to.new) s.now) }
 {

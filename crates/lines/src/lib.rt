@@ -58,6 +58,7 @@ fn take_sheet<W: Write>(state: &mut State, rest: &[u8], out: &mut Gathering<W>) 
     let loaded = sheet::load(bytes.as_slice());
     state.len = bytes.len();
     state.sheet[..bytes.len()].copy_from_slice(bytes.as_slice());
+    state.sheet[bytes.len()..].fill(0);
     if let Ok(sheet) = loaded {
         state.monitor = Monitor::new(sheet);
     }

@@ -6,7 +6,7 @@ ghost use Rattle.sheet.specs.Sound.{sound_event, sound_node, sound};
 use crate::Sheet;
 use faults::ranges;
 
-// A stored sheet that is sound, lent: what rows, windows and sets of events are judged by.
+// A stored sheet that is sound, lent: what rows, windows and images are judged by.
 #[derive(Clone, Copy)]
 pub struct SoundSheet<'a> {
     pub sheet: &'a Sheet,
