@@ -33,8 +33,8 @@ pub fn first_word(s: &[u8]) -> (&[u8], Option<&[u8]>)
     }
 }
 
-// The sign and the zeros in front aside, no whole number has more digits: those of the greatest of 128 bits.
-const DIGITS: usize = 39;
+// The zeros in front aside, no whole number takes more bytes: a sign, and the digits of the greatest of 128 bits.
+const DIGITS: usize = 40;
 
 // The whole number that s says in decimal, if that is all it says and the number fits.
 pub fn decimal<N: FromStr>(s: &[u8]) -> Option<N>
@@ -47,9 +47,8 @@ where
         return None;
     }
     // A word too long for a number may be long indeed, and is not read through.
-    let digits = s.strip_prefix(b"-").unwrap_or(s);
-    let zeros = digits.iter().position(|c| *c != b'0');
-    if zeros.is_some_and(|n| DIGITS < digits.len() - n) {
+    let zeros = s.iter().position(|c| *c != b'0');
+    if zeros.is_some_and(|n| DIGITS < s.len() - n) {
         return None;
     }
     str::from_utf8(s).ok()?.parse().ok()
