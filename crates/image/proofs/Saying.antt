@@ -134,20 +134,37 @@ module _ (s : List ℕ) where
       (m w : Bool) (total gone carried : ℕ)
       (m-is : m ≡ headed header_kind s) (w-is : w ≡ all (headed session_kind) (sessions_in s))
       (total_is : total ≡ number_of (take count_length (drop total_at s))) (gone_is : gone ≡ number_of (take count_length (drop gone_at s))) (carried_is : carried ≡ number_of (take row_length (drop carried_at s)))
-      (long : header_length ≤ length s) (counted : miscounted ≡ false)
+      (long : header_length ≤ length s)
     where
       abbrev pub unread : Bool
-      unread = not m || not w || not (eqb total (gone + (length s - header_length) / session_length)) || (eqb gone 0 && not (eqb carried 0))
+      unread =
+          let behind = length s - header_length in
+          not (eqb (behind % session_length) 0) || not m || not w || ltb kept_most (behind / session_length) || not (eqb total (gone + behind / session_length)) || (eqb gone 0 && not (eqb carried 0))
 
       read_as : misshapen kept_most s ≡ unread
-      unfolding said kept_in
-      read_as = else_read long counted ∙ rw (m-is, w-is, total_is, gone_is, carried_is)
+      unfolding misshapen said kept_in
+      read_as = rw (le-ltb (length s) header_length long, m-is, w-is, total_is, gone_is, carried_is)
 
       pub unread_wrong : unread ≡ true → refused 42 ≡ front_of s
       unread_wrong e = wrong_if (read_as ∙ e)
 
       pub read_says : unread ≡ false → good (record { total = total; gone = gone; carried = carried }) ≡ front_of s
       read_says e = rw (total_is, gone_is, carried_is) (says_if (read_as ∙ e))
+
+      -- where the counts were tested before
+      module _ (counted : miscounted ≡ false) where
+        abbrev pub rest_unread : Bool
+        rest_unread = not m || not w || not (eqb total (gone + (length s - header_length) / session_length)) || (eqb gone 0 && not (eqb carried 0))
+
+        rest_read_as : misshapen kept_most s ≡ rest_unread
+        unfolding said kept_in
+        rest_read_as = else_read long counted ∙ rw (m-is, w-is, total_is, gone_is, carried_is)
+
+        pub rest_unread_wrong : rest_unread ≡ true → refused 42 ≡ front_of s
+        rest_unread_wrong e = wrong_if (rest_read_as ∙ e)
+
+        pub rest_read_says : rest_unread ≡ false → good (record { total = total; gone = gone; carried = carried }) ≡ front_of s
+        rest_read_says e = rw (total_is, gone_is, carried_is) (says_if (rest_read_as ∙ e))
 
 -- WHAT 43 SAYS
 
