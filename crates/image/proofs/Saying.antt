@@ -78,6 +78,12 @@ module _ (s : List ℕ) where
   unfolding misshapen
   too_short l = rw (lt-ltb (length s) header_length l)
 
+  abbrev broken : Bool
+  broken = not (eqb ((length s - header_length) % session_length) 0)
+
+  abbrev crowded : Bool
+  crowded = ltb kept_most ((length s - header_length) / session_length)
+
   -- a broken length, or too many sessions
   abbrev pub miscounted : Bool
   miscounted = not (eqb ((length s - header_length) % session_length) 0) || ltb kept_most ((length s - header_length) / session_length)
@@ -87,14 +93,14 @@ module _ (s : List ℕ) where
       not (headed header_kind s) || not (all (headed session_kind) (sessions_in s)) || not (eqb (said s).total ((said s).gone + kept_in s))
       || (eqb (said s).gone 0 && not (eqb (said s).carried_row 0))
 
-  seven_tests : (b c d e f g : Bool) → (b || e) ≡ true → (false || b || c || d || e || f || g) ≡ true
+  seven_tests : (b c d e f g : Bool) → (b || e) ≡ true → (b || c || d || e || f || g) ≡ true
   seven_tests true c d e f g q = refl
   seven_tests false true d e f g q = refl
   seven_tests false false true e f g q = refl
   seven_tests false false false true f g q = refl
   seven_tests false false false false f g q = absurd (false≢true q)
 
-  rest_tests : (b c d e f g : Bool) → (b || e) ≡ false → (false || b || c || d || e || f || g) ≡ (c || d || f || g)
+  rest_tests : (b c d e f g : Bool) → (b || e) ≡ false → (b || c || d || e || f || g) ≡ (c || d || f || g)
   rest_tests false true d false f g q = refl
   rest_tests false false true false f g q = refl
   rest_tests false false false false f g q = refl
@@ -102,32 +108,6 @@ module _ (s : List ℕ) where
   rest_tests false true d true f g q = absurd (false≢true (sym q))
   rest_tests false false true true f g q = absurd (false≢true (sym q))
   rest_tests false false false true f g q = absurd (false≢true (sym q))
-
-  pub counts_wrong : header_length ≤ length s → miscounted ≡ true → misshapen kept_most s ≡ true
-  unfolding misshapen kept_in
-  counts_wrong l e =
-      rw (le-ltb (length s) header_length l)
-      (seven_tests
-      (not (eqb ((length s - header_length) % session_length) 0))
-      (not (headed header_kind s))
-      (not (all (headed session_kind) (sessions_in s)))
-      (ltb kept_most ((length s - header_length) / session_length))
-      (not (eqb (said s).total ((said s).gone + kept_in s)))
-      (eqb (said s).gone 0 && not (eqb (said s).carried_row 0))
-      e)
-
-  pub else_read : header_length ≤ length s → miscounted ≡ false → misshapen kept_most s ≡ misread
-  unfolding misshapen kept_in
-  else_read l e =
-      rw (le-ltb (length s) header_length l)
-      (rest_tests
-      (not (eqb ((length s - header_length) % session_length) 0))
-      (not (headed header_kind s))
-      (not (all (headed session_kind) (sessions_in s)))
-      (ltb kept_most ((length s - header_length) / session_length))
-      (not (eqb (said s).total ((said s).gone + kept_in s)))
-      (eqb (said s).gone 0 && not (eqb (said s).carried_row 0))
-      e)
 
   -- in the terms in which code finds it
   module _
@@ -151,20 +131,39 @@ module _ (s : List ℕ) where
       pub read_says : unread ≡ false → good (record { total = total; gone = gone; carried = carried }) ≡ front_of s
       read_says e = rw (total_is, gone_is, carried_is) (says_if (read_as ∙ e))
 
+      abbrev ill_summed : Bool
+      ill_summed = not (eqb total (gone + (length s - header_length) / session_length))
+
+      abbrev stray : Bool
+      stray = eqb gone 0 && not (eqb carried 0)
+
+      all_unread : miscounted ≡ true → unread ≡ true
+      all_unread = seven_tests broken (not m) (not w) crowded ill_summed stray
+
       -- where the counts were tested before
       module _ (counted : miscounted ≡ false) where
         abbrev pub rest_unread : Bool
         rest_unread = not m || not w || not (eqb total (gone + (length s - header_length) / session_length)) || (eqb gone 0 && not (eqb carried 0))
 
+        rest_is : unread ≡ rest_unread
+        rest_is = rest_tests broken (not m) (not w) crowded ill_summed stray counted
+
         rest_read_as : misshapen kept_most s ≡ rest_unread
-        unfolding said kept_in
-        rest_read_as = else_read long counted ∙ rw (m-is, w-is, total_is, gone_is, carried_is)
+        rest_read_as = read_as ∙ rest_is
 
         pub rest_unread_wrong : rest_unread ≡ true → refused 42 ≡ front_of s
-        rest_unread_wrong e = wrong_if (rest_read_as ∙ e)
+        rest_unread_wrong e = unread_wrong (rest_is ∙ e)
 
         pub rest_read_says : rest_unread ≡ false → good (record { total = total; gone = gone; carried = carried }) ≡ front_of s
-        rest_read_says e = rw (total_is, gone_is, carried_is) (says_if (rest_read_as ∙ e))
+        rest_read_says e = read_says (rest_is ∙ e)
+
+  -- in the meaning's own terms
+  pub counts_wrong : header_length ≤ length s → miscounted ≡ true → misshapen kept_most s ≡ true
+  counts_wrong l e = read_as _ _ _ _ _ refl refl refl refl refl l ∙ all_unread _ _ _ _ _ refl refl refl refl refl l e
+
+  pub else_read : header_length ≤ length s → miscounted ≡ false → misshapen kept_most s ≡ misread
+  unfolding said kept_in
+  else_read l e = rest_read_as _ _ _ _ _ refl refl refl refl refl l e
 
 -- WHAT 43 SAYS
 
